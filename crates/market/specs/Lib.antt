@@ -1,0 +1,4 @@
+pub mod Quote
+pub mod Sheets
+pub mod Share
+pub mod Currency
