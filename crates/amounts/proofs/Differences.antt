@@ -13,12 +13,12 @@ pub times-difference : (s x y : ℕ) → pos s *ℤ (pos x -ℤ pos y) ≡ pos (
 times-difference s x y =
     ⊎-elim
     (λ lt.
-      let e : pos x -ℤ pos y ≡ negsuc (y - x - 1) = omega (arith, ints) in
-      let d : suc (y - x - 1) ≡ y - x = omega arith in
-      ap (λ z. pos s *ℤ z) e ∙ ap (λ n. negℤ (pos (s * n))) d ∙ omega (arith, ints, mul-sub s y x, mul-le-mul-left {m = x} {n = y} s (omega arith)))
+    let e : pos x -ℤ pos y ≡ negsuc (y - x - 1) = omega (arith, ints) in
+    let d : suc (y - x - 1) ≡ y - x = omega arith in
+    ap (λ z. pos s *ℤ z) e ∙ ap (λ n. negℤ (pos (s * n))) d ∙ omega (arith, ints, mul-sub s y x, mul-le-mul-left {m = x} {n = y} s (omega arith)))
     (λ le.
-      let e : pos x -ℤ pos y ≡ pos (x - y) = omega (arith, ints) in
-      ap (λ z. pos s *ℤ z) e ∙ omega (arith, ints, mul-sub s x y, mul-le-mul-left {m = y} {n = x} s (omega arith)))
+    let e : pos x -ℤ pos y ≡ pos (x - y) = omega (arith, ints) in
+    ap (λ z. pos s *ℤ z) e ∙ omega (arith, ints, mul-sub s x y, mul-le-mul-left {m = y} {n = x} s (omega arith)))
     (order x y)
 
 -- a difference is no greater than its terms' bound

@@ -18,6 +18,8 @@ impl Cents {
         if amount > 500_000 {
             return None;
         }
-        Some(Cents { amount: amount as u32 })
+        Some(Cents {
+            amount: amount as u32,
+        })
     }
 }

@@ -19,6 +19,8 @@ impl ContractSize {
         if units < 1 || units > 1_000 {
             return None;
         }
-        Some(ContractSize { units: units as u16 })
+        Some(ContractSize {
+            units: units as u16,
+        })
     }
 }

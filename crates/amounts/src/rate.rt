@@ -18,6 +18,8 @@ impl Rate {
         if basis_points > 10_000 {
             return None;
         }
-        Some(Rate { basis_points: basis_points as u16 })
+        Some(Rate {
+            basis_points: basis_points as u16,
+        })
     }
 }

@@ -5,11 +5,11 @@ ghost use Rattle.articles.specs.ByArticle.{requirementOf};
 use crate::Article;
 use crate::ArticleFault;
 use crate::Leg;
-use crate::legs::spread;
 use crate::legs::conversion;
 use crate::legs::protective_put;
 use crate::legs::receipt_call;
 use crate::legs::reconversion;
+use crate::legs::spread;
 use crate::legs::straddle;
 use amounts::ContractSize;
 use market::Market;
@@ -17,7 +17,13 @@ use positions::Record;
 use pricing::Right;
 
 // What a set of two legs requires.
-fn of_two<M: Market>(market: &M, size: ContractSize, article: Article, first: &Record, second: &Record) -> Result<u64, ArticleFault>
+fn of_two<M: Market>(
+    market: &M,
+    size: ContractSize,
+    article: Article,
+    first: &Record,
+    second: &Record,
+) -> Result<u64, ArticleFault>
     ensures { λ r. ⌜ r ≡ requirementOf (M·Market .quote (now (market .entry))) (size .units) article (terms (now (first .entry)) ∷ terms (now (second .entry)) ∷ []) ⌝ }
 {
     match article {
@@ -31,18 +37,34 @@ fn of_two<M: Market>(market: &M, size: ContractSize, article: Article, first: &R
 }
 
 // What a set of three legs requires.
-fn of_three<M: Market>(market: &M, size: ContractSize, article: Article, first: &Record, second: &Record, third: &Record) -> Result<u64, ArticleFault>
+fn of_three<M: Market>(
+    market: &M,
+    size: ContractSize,
+    article: Article,
+    first: &Record,
+    second: &Record,
+    third: &Record,
+) -> Result<u64, ArticleFault>
     ensures { λ r. ⌜ r ≡ requirementOf (M·Market .quote (now (market .entry))) (size .units) article (terms (now (first .entry)) ∷ terms (now (second .entry)) ∷ terms (now (third .entry)) ∷ []) ⌝ }
 {
     match article {
         Article::Conversion => conversion(market, size, first, second, third),
         Article::Reconversion => reconversion(market, size, first, second, third),
-        Article::CallSpread | Article::PutSpread | Article::Straddle | Article::ProtectivePut | Article::ReceiptCall => Err(ArticleFault::WrongLeg(Leg::Third)),
+        Article::CallSpread
+        | Article::PutSpread
+        | Article::Straddle
+        | Article::ProtectivePut
+        | Article::ReceiptCall => Err(ArticleFault::WrongLeg(Leg::Third)),
     }
 }
 
 // What a set requires under an article, or why it is refused; a leg too few or too many is a wrong leg.
-pub fn set_requirement<M: Market>(market: &M, size: ContractSize, article: Article, legs: &[Record]) -> Result<u64, ArticleFault>
+pub fn set_requirement<M: Market>(
+    market: &M,
+    size: ContractSize,
+    article: Article,
+    legs: &[Record],
+) -> Result<u64, ArticleFault>
     ensures { λ r. ⌜ r ≡ requirementOf (M·Market .quote (now (market .entry))) (size .units) article (map terms (now (legs .entry))) ⌝ }
 {
     match legs {

@@ -53,5 +53,7 @@ pub fn tracked_amount<M: Market>(market: &M) -> Result<UnitAmount, ArticleFault>
     ensures { λ r. ⌜ mapped partsIn (λ f. f) r ≡ tracked (M·Market .quote (now (market .entry))) ⌝ }
 {
     let rate = market::tracking(market)?;
-    Ok(UnitAmount { parts: rate.of(market.price()) })
+    Ok(UnitAmount {
+        parts: rate.of(market.price()),
+    })
 }

@@ -36,7 +36,13 @@ fn kind_of_right(right: Right) -> Kind
 }
 
 // 1 (calls) and 2 (puts). A spread: long option, short option, the short one's days not above the long one's.
-pub fn spread<M: Market>(market: &M, size: ContractSize, right: Right, long: &Record, short: &Record) -> Result<u64, ArticleFault>
+pub fn spread<M: Market>(
+    market: &M,
+    size: ContractSize,
+    right: Right,
+    long: &Record,
+    short: &Record,
+) -> Result<u64, ArticleFault>
     ensures value { λ r. ⌜ r ≡ spread (M·Market .quote (now (market .entry))) (size .units) right (terms (now (long .entry))) (terms (now (short .entry))) ⌝ }
     ensures under_short { λ r. ⌜ made r (λ n. n ≤ alone (M·Market .quote (now (market .entry))) (size .units) (terms (now (short .entry)))) ⌝ }
 {
@@ -48,7 +54,12 @@ pub fn spread<M: Market>(market: &M, size: ContractSize, right: Right, long: &Re
 }
 
 // 3. A straddle: short call, short put.
-pub fn straddle<M: Market>(market: &M, size: ContractSize, call: &Record, put: &Record) -> Result<u64, ArticleFault>
+pub fn straddle<M: Market>(
+    market: &M,
+    size: ContractSize,
+    call: &Record,
+    put: &Record,
+) -> Result<u64, ArticleFault>
     ensures value { λ r. ⌜ r ≡ straddle (M·Market .quote (now (market .entry))) (size .units) (terms (now (call .entry))) (terms (now (put .entry))) ⌝ }
     ensures over_call { λ r. ⌜ made r (λ n. alone (M·Market .quote (now (market .entry))) (size .units) (terms (now (call .entry))) ≤ n) ⌝ }
     ensures over_put { λ r. ⌜ made r (λ n. alone (M·Market .quote (now (market .entry))) (size .units) (terms (now (put .entry))) ≤ n) ⌝ }
@@ -59,7 +70,12 @@ pub fn straddle<M: Market>(market: &M, size: ContractSize, call: &Record, put: &
 }
 
 // 4. A protective put: long put, long units.
-pub fn protective_put<M: Market>(market: &M, size: ContractSize, put: &Record, units: &Record) -> Result<u64, ArticleFault>
+pub fn protective_put<M: Market>(
+    market: &M,
+    size: ContractSize,
+    put: &Record,
+    units: &Record,
+) -> Result<u64, ArticleFault>
     ensures value { λ r. ⌜ r ≡ protectivePut (M·Market .quote (now (market .entry))) (size .units) (terms (now (put .entry))) (terms (now (units .entry))) ⌝ }
     ensures under_units { λ r. ⌜ made r (λ n. n ≤ size .units * alone (M·Market .quote (now (market .entry))) (size .units) (terms (now (units .entry)))) ⌝ }
 {
@@ -69,7 +85,13 @@ pub fn protective_put<M: Market>(market: &M, size: ContractSize, put: &Record, u
 }
 
 // Put and futures of one side, the call of the other, all days equal; and the tracked amount of a unit.
-fn aligned_legs<M: Market>(market: &M, side: Side, put: &Record, call: &Record, futures: &Record) -> Result<UnitAmount, ArticleFault>
+fn aligned_legs<M: Market>(
+    market: &M,
+    side: Side,
+    put: &Record,
+    call: &Record,
+    futures: &Record,
+) -> Result<UnitAmount, ArticleFault>
     ensures { λ r. ⌜ mapped partsIn (λ f. f) r ≡ aligned (M·Market .quote (now (market .entry))) side (terms (now (put .entry))) (terms (now (call .entry))) (terms (now (futures .entry))) ⌝ }
 {
     leg_is(Leg::First, side, Kind::Put, put)?;
@@ -80,7 +102,13 @@ fn aligned_legs<M: Market>(market: &M, side: Side, put: &Record, call: &Record, 
 }
 
 // 5 of the share book. A conversion: long put, short call, long futures, days equal.
-pub fn conversion<M: Market>(market: &M, size: ContractSize, put: &Record, call: &Record, futures: &Record) -> Result<u64, ArticleFault>
+pub fn conversion<M: Market>(
+    market: &M,
+    size: ContractSize,
+    put: &Record,
+    call: &Record,
+    futures: &Record,
+) -> Result<u64, ArticleFault>
     ensures { λ r. ⌜ r ≡ conversion (M·Market .quote (now (market .entry))) (size .units) (terms (now (put .entry))) (terms (now (call .entry))) (terms (now (futures .entry))) ⌝ }
 {
     let tracked = aligned_legs(market, Side::Long, put, call, futures)?;
@@ -88,7 +116,13 @@ pub fn conversion<M: Market>(market: &M, size: ContractSize, put: &Record, call:
 }
 
 // 6 of the share book. A reconversion: short put, long call, short futures, days equal.
-pub fn reconversion<M: Market>(market: &M, size: ContractSize, put: &Record, call: &Record, futures: &Record) -> Result<u64, ArticleFault>
+pub fn reconversion<M: Market>(
+    market: &M,
+    size: ContractSize,
+    put: &Record,
+    call: &Record,
+    futures: &Record,
+) -> Result<u64, ArticleFault>
     ensures { λ r. ⌜ r ≡ reconversion (M·Market .quote (now (market .entry))) (size .units) (terms (now (put .entry))) (terms (now (call .entry))) (terms (now (futures .entry))) ⌝ }
 {
     let tracked = aligned_legs(market, Side::Short, put, call, futures)?;

@@ -3,17 +3,18 @@
 ghost use mathlib.Core.Path.{_≡_};
 ghost use Rattle.articles.specs.ByArticle.{legsOf};
 ghost use Rattle.articles.specs.Causes.{causeNumber, legNumber, causeLeg, fromMarket};
+
 mod by_article;
+mod checks;
 mod legs;
 mod sets;
-mod checks;
 
 pub use by_article::set_requirement;
-pub use legs::spread;
 pub use legs::conversion;
 pub use legs::protective_put;
 pub use legs::receipt_call;
 pub use legs::reconversion;
+pub use legs::spread;
 pub use legs::straddle;
 use market::MarketFault;
 
@@ -62,7 +63,11 @@ impl Article {
     {
         match self {
             Article::Conversion | Article::Reconversion => 3,
-            Article::CallSpread | Article::PutSpread | Article::Straddle | Article::ProtectivePut | Article::ReceiptCall => 2,
+            Article::CallSpread
+            | Article::PutSpread
+            | Article::Straddle
+            | Article::ProtectivePut
+            | Article::ReceiptCall => 2,
         }
     }
 }

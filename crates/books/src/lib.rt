@@ -2,15 +2,16 @@
 ghost use mathlib.Core.Path.{_≡_};
 ghost use lib.ListN.{length};
 ghost use Rattle.books.specs.Tables.{Tables, Has, Lawful};
+
 mod sheets;
 
+use amounts::ContractSize;
+use positions::Record;
 pub use sheets::BookFaultFromArticle;
 pub use sheets::CurrencyBook;
 pub use sheets::ShareBook;
 pub use sheets::Sheet;
 pub use sheets::SheetBook;
-use amounts::ContractSize;
-use positions::Record;
 
 // Why a book refuses a set: a cause from 1 to 255, and the leg that it names, from 1 to 3, or 0 for none.
 #[derive(Clone, Copy)]

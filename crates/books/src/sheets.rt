@@ -23,7 +23,10 @@ pub impl From<ArticleFault> for BookFault as BookFaultFromArticle {
     fn from(value: ArticleFault) -> BookFault
         ensures { λ r. ⌜ r ≡ raised value ⌝ }
     {
-        BookFault { cause: value.cause(), leg: value.leg() }
+        BookFault {
+            cause: value.cause(),
+            leg: value.leg(),
+        }
     }
 }
 

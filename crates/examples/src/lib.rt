@@ -29,7 +29,9 @@ pub fn sample_sheet() -> ShareSheet
         price: Cents { amount: 5_000 },
         reduced: false,
         floor: Rate { basis_points: 500 },
-        futures: Some(Rate { basis_points: 2_000 }),
+        futures: Some(Rate {
+            basis_points: 2_000,
+        }),
         tracking: Some(Rate { basis_points: 150 }),
     }
 }

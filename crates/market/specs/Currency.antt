@@ -23,7 +23,7 @@ abbrev pub currencyOf : Currency → Result Currency SheetFault
 currencyOf c =
     cond (priceInRange (c .price))
     (cond (rateInRange (c .spot))
-      (Ok c)
+    (Ok c)
     (Err OutOfRange))
     (Err OutOfRange)
 

@@ -40,7 +40,7 @@ sheetOf s =
     (cond (rateInRange (s .floor))
     (cond (noneOrInRange (s .futures))
     (cond (noneOrInRange (s .tracking))
-      (Ok s)
+    (Ok s)
     (Err OutOfRange))
     (Err OutOfRange))
     (Err OutOfRange))

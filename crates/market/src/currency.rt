@@ -27,11 +27,15 @@ pub impl Market for CurrencySheet as CurrencyMarket {
     }
 
     fn long_requirement(&self) -> UnitAmount {
-        UnitAmount { parts: self.spot.of(self.price) }
+        UnitAmount {
+            parts: self.spot.of(self.price),
+        }
     }
 
     fn short_requirement(&self) -> UnitAmount {
-        UnitAmount { parts: self.price.parts() + self.spot.of(self.price) }
+        UnitAmount {
+            parts: self.price.parts() + self.spot.of(self.price),
+        }
     }
 
     fn option_rate(&self) -> Rate {

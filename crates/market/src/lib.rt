@@ -6,18 +6,19 @@ ghost use Rattle.std.specs.Results.{mapped};
 ghost use Rattle.std.specs.Vec.{made};
 ghost use Rattle.market.specs.Quote.{Quote, Limits, trackingOf, basisPoints, centsIn};
 ghost use Rattle.market.specs.Sheets.{sheetNumber, priceInRange, rateInRange, noneOrInRange, accepted};
+
 mod currency;
 mod currency_sheet;
 mod share;
 mod share_sheet;
 
+use amounts::Cents;
+use amounts::Rate;
+use amounts::UnitAmount;
 pub use currency::CurrencyMarket;
 pub use currency_sheet::CurrencySheet;
 pub use share::ShareMarket;
 pub use share_sheet::ShareSheet;
-use amounts::Cents;
-use amounts::Rate;
-use amounts::UnitAmount;
 
 // Its answers never change.
 pub trait Market {
@@ -93,7 +94,9 @@ fn price_of(cents: u64) -> Result<Cents, SheetFault>
     if cents < 1 || cents > 500_000 {
         return Err(SheetFault::OutOfRange);
     }
-    Ok(Cents { amount: cents as u32 })
+    Ok(Cents {
+        amount: cents as u32,
+    })
 }
 
 // A rate that a sheet may hold.
@@ -103,7 +106,9 @@ fn rate_of(basis_points: u64) -> Result<Rate, SheetFault>
     if basis_points > 10_000 {
         return Err(SheetFault::OutOfRange);
     }
-    Ok(Rate { basis_points: basis_points as u16 })
+    Ok(Rate {
+        basis_points: basis_points as u16,
+    })
 }
 
 // A rate that may be none.

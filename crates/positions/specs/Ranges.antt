@@ -15,40 +15,41 @@ use Rattle.positions.specs.declared.RecordFault.{RecordFault}
 use Rattle.positions.specs.declared.RecordFault.the-variants.{OutOfRange}
 use Rattle.positions.specs.Letters.{sided}
 
-abbrev pub from-to : ℕ → ℕ → Range
-from-to low high = record { low = low; high = high }
+-- from the lowest to the highest
+abbrev pub fromTo : ℕ → ℕ → Range
+fromTo low high = record { low = low; high = high }
 
 -- strike: of an option, 1 to 500,000 cents a unit; else 0
 abbrev pub strikeRange : Kind → Range
-strikeRange Units = from-to 0 0
-strikeRange Call = from-to 1 500000
-strikeRange Put = from-to 1 500000
-strikeRange Futures = from-to 0 0
-strikeRange Receipt = from-to 0 0
+strikeRange Units = fromTo 0 0
+strikeRange Call = fromTo 1 500000
+strikeRange Put = fromTo 1 500000
+strikeRange Futures = fromTo 0 0
+strikeRange Receipt = fromTo 0 0
 
 -- days to expiry: of an option or futures, 0 to 4,000; else 0
 abbrev pub dayRange : Kind → Range
-dayRange Units = from-to 0 0
-dayRange Call = from-to 0 4000
-dayRange Put = from-to 0 4000
-dayRange Futures = from-to 0 4000
-dayRange Receipt = from-to 0 0
+dayRange Units = fromTo 0 0
+dayRange Call = fromTo 0 4000
+dayRange Put = fromTo 0 4000
+dayRange Futures = fromTo 0 4000
+dayRange Receipt = fromTo 0 0
 
 -- price: an option's premium, 0 to 500,000 cents a unit; the daily settlement of futures, 1 to 500,000; else 0
 abbrev pub priceRange : Kind → Range
-priceRange Units = from-to 0 0
-priceRange Call = from-to 0 500000
-priceRange Put = from-to 0 500000
-priceRange Futures = from-to 1 500000
-priceRange Receipt = from-to 0 0
+priceRange Units = fromTo 0 0
+priceRange Call = fromTo 0 500000
+priceRange Put = fromTo 0 500000
+priceRange Futures = fromTo 1 500000
+priceRange Receipt = fromTo 0 0
 
 -- quantity: 1 to 5,000 contracts; of the underlying, as many units as those have
 abbrev pub quantityRange : ℕ → Kind → Range
-quantityRange size Units = from-to 1 (5000 * size)
-quantityRange size Call = from-to 1 5000
-quantityRange size Put = from-to 1 5000
-quantityRange size Futures = from-to 1 5000
-quantityRange size Receipt = from-to 1 5000
+quantityRange size Units = fromTo 1 (5000 * size)
+quantityRange size Call = fromTo 1 5000
+quantityRange size Put = fromTo 1 5000
+quantityRange size Futures = fromTo 1 5000
+quantityRange size Receipt = fromTo 1 5000
 
 abbrev pub holds : Range → ℕ → Bool
 holds range n = inside (range .low) (range .high) n

@@ -39,7 +39,7 @@ judged size e kind =
     (cond (holds (dayRange kind) (e .days))
     (cond (holds (priceRange kind) (e .price))
     (cond (holds (quantityRange size kind) (e .quantity))
-      (Ok tt)
+    (Ok tt)
     (Err (OutOfRange field.Quantity)))
     (Err (OutOfRange field.Price)))
     (Err (OutOfRange field.Days)))
@@ -50,7 +50,7 @@ abbrev pub ranged : Entry → Side → Kind → Result (Unit {0}) RecordFault �
 ranged e side kind (Err fault) = Err fault
 ranged e side kind (Ok passed) =
     decide (inRange side kind (e .strike) (e .days) (e .price))
-      (λ ok. Ok (record { side = side; kind = kind; strike = e .strike; days = e .days; price = e .price; quantity = e .quantity; ranged = ok }))
+    (λ ok. Ok (record { side = side; kind = kind; strike = e .strike; days = e .days; price = e .price; quantity = e .quantity; ranged = ok }))
     (Err (OutOfRange field.Kind))
 
 abbrev pub kindsOf : ℕ → Entry → Side → Option Kind → Result Record RecordFault

@@ -12,6 +12,7 @@ use crate::Range;
 use crate::RecordFault;
 use crate::Side;
 use crate::day_range;
+use crate::from_to;
 use crate::kind_of;
 use crate::price_range;
 use crate::record::Record;
@@ -27,8 +28,8 @@ pub fn quantity_range(size: ContractSize, kind: Kind) -> Range
     ensures bound { λ r. ⌜ r .high ≤ 5000000 ⌝ }
 {
     match kind {
-        Kind::Units => Range { low: 1, high: 5_000 * size.units as u64 },
-        Kind::Call | Kind::Put | Kind::Futures | Kind::Receipt => Range { low: 1, high: 5_000 },
+        Kind::Units => from_to(1, 5_000 * size.units as u64),
+        Kind::Call | Kind::Put | Kind::Futures | Kind::Receipt => from_to(1, 5_000),
     }
 }
 
@@ -89,7 +90,9 @@ impl Record {
     pub fn strike_cents(&self) -> Cents
         ensures { λ r. ⌜ r .amount ≡ now (self .entry) .strike ⌝ }
     {
-        Cents { amount: self.strike }
+        Cents {
+            amount: self.strike,
+        }
     }
 
     // The premium or the settlement.

@@ -3,8 +3,9 @@ ghost use mathlib.Core.Path.{_≡_};
 ghost use Prim.Native.Nat.{_≤_};
 ghost use Rattle.positions.specs.Kinds.{otherSide};
 ghost use Rattle.positions.specs.Letters.{sideOf, kindOf};
-ghost use Rattle.positions.specs.Ranges.{strikeRange, dayRange, priceRange, quantityRange};
+ghost use Rattle.positions.specs.Ranges.{fromTo, strikeRange, dayRange, priceRange, quantityRange};
 ghost use Rattle.positions.specs.Refusals.{fieldNumber, refusalNumber, refusalDetail};
+
 mod checks;
 mod record;
 
@@ -124,14 +125,20 @@ pub fn kind_of(letter: char) -> Option<Kind>
     }
 }
 
+pub(crate) fn from_to(low: u64, high: u64) -> Range
+    ensures { λ r. ⌜ r ≡ fromTo low high ⌝ }
+{
+    Range { low, high }
+}
+
 // A strike, in cents a unit: options have one.
 pub fn strike_range(kind: Kind) -> Range
     ensures value { λ r. ⌜ r ≡ strikeRange kind ⌝ }
     ensures bound { λ r. ⌜ r .high ≤ 500000 ⌝ }
 {
     match kind {
-        Kind::Call | Kind::Put => Range { low: 1, high: 500_000 },
-        Kind::Units | Kind::Futures | Kind::Receipt => Range { low: 0, high: 0 },
+        Kind::Call | Kind::Put => from_to(1, 500_000),
+        Kind::Units | Kind::Futures | Kind::Receipt => from_to(0, 0),
     }
 }
 
@@ -141,8 +148,8 @@ pub fn day_range(kind: Kind) -> Range
     ensures bound { λ r. ⌜ r .high ≤ 4000 ⌝ }
 {
     match kind {
-        Kind::Call | Kind::Put | Kind::Futures => Range { low: 0, high: 4_000 },
-        Kind::Units | Kind::Receipt => Range { low: 0, high: 0 },
+        Kind::Call | Kind::Put | Kind::Futures => from_to(0, 4_000),
+        Kind::Units | Kind::Receipt => from_to(0, 0),
     }
 }
 
@@ -152,9 +159,9 @@ pub fn price_range(kind: Kind) -> Range
     ensures bound { λ r. ⌜ r .high ≤ 500000 ⌝ }
 {
     match kind {
-        Kind::Call | Kind::Put => Range { low: 0, high: 500_000 },
-        Kind::Futures => Range { low: 1, high: 500_000 },
-        Kind::Units | Kind::Receipt => Range { low: 0, high: 0 },
+        Kind::Call | Kind::Put => from_to(0, 500_000),
+        Kind::Futures => from_to(1, 500_000),
+        Kind::Units | Kind::Receipt => from_to(0, 0),
     }
 }
 

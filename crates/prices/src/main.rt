@@ -14,7 +14,14 @@ use std::error::AnyError;
 
 // A position of one unit or contract.
 fn one(side: char, kind: char, strike: u64, days: u64, price: u64) -> Entry {
-    Entry { side, kind, strike, days, price, quantity: 1 }
+    Entry {
+        side,
+        kind,
+        strike,
+        days,
+        price,
+        quantity: 1,
+    }
 }
 
 // The records that the entries make; an entry out of range makes none.
@@ -28,7 +35,12 @@ fn records(heap: Global, size: ContractSize, entries: &[Entry]) -> Result<Vec<Re
     Ok(made)
 }
 
-fn print_alone(rt: &LibcRuntime, what: &str, book: &Sheet, position: Entry) -> Result<(), AnyError> {
+fn print_alone(
+    rt: &LibcRuntime,
+    what: &str,
+    book: &Sheet,
+    position: Entry,
+) -> Result<(), AnyError> {
     match Record::new(sample_size(), &position) {
         Ok(record) => {
             let parts = book.alone(sample_size(), &record);
@@ -43,7 +55,13 @@ fn print_alone(rt: &LibcRuntime, what: &str, book: &Sheet, position: Entry) -> R
     Ok(())
 }
 
-fn print_set(rt: &LibcRuntime, what: &str, book: &Sheet, article: u8, entries: &[Entry]) -> Result<(), AnyError> {
+fn print_set(
+    rt: &LibcRuntime,
+    what: &str,
+    book: &Sheet,
+    article: u8,
+    entries: &[Entry],
+) -> Result<(), AnyError> {
     let legs = records(rt.alloc(), sample_size(), entries)?;
     let has = article >= 1 && article <= book.articles();
     if !has || legs.len() != book.legs(article) as usize {
@@ -74,21 +92,80 @@ fn print_unit(rt: &LibcRuntime, what: &str, side: char, price: u64) -> Result<()
 }
 
 fn print_positions(rt: &LibcRuntime, book: &Sheet) -> Result<(), AnyError> {
-    print_alone(rt, "short C 5500 at 120", book, one('S', 'C', 5_500, 100, 120))?;
+    print_alone(
+        rt,
+        "short C 5500 at 120",
+        book,
+        one('S', 'C', 5_500, 100, 120),
+    )?;
     print_alone(rt, "short C 9000 at 5", book, one('S', 'C', 9_000, 100, 5))?;
-    print_alone(rt, "long C 4500 at 620, days 269", book, one('L', 'C', 4_500, 269, 620))?;
-    print_alone(rt, "long C 4500 at 620, days 270", book, one('L', 'C', 4_500, 270, 620))
+    print_alone(
+        rt,
+        "long C 4500 at 620, days 269",
+        book,
+        one('L', 'C', 4_500, 269, 620),
+    )?;
+    print_alone(
+        rt,
+        "long C 4500 at 620, days 270",
+        book,
+        one('L', 'C', 4_500, 270, 620),
+    )
 }
 
 fn print_sets(rt: &LibcRuntime, book: &Sheet) -> Result<(), AnyError> {
-    print_set(rt, "1: long C 5500 at 120, short C 5000 at 300", book, 1, &[one('L', 'C', 5_500, 100, 120), one('S', 'C', 5_000, 100, 300)])?;
-    print_set(rt, "3: short C 5500 at 120, short P 5200 at 350", book, 3, &[one('S', 'C', 5_500, 100, 120), one('S', 'P', 5_200, 100, 350)])?;
-    print_set(rt, "4: long P 4800 at 150, long U", book, 4, &[one('L', 'P', 4_800, 100, 150), one('L', 'U', 0, 0, 0)])
+    print_set(
+        rt,
+        "1: long C 5500 at 120, short C 5000 at 300",
+        book,
+        1,
+        &[
+            one('L', 'C', 5_500, 100, 120),
+            one('S', 'C', 5_000, 100, 300),
+        ],
+    )?;
+    print_set(
+        rt,
+        "3: short C 5500 at 120, short P 5200 at 350",
+        book,
+        3,
+        &[
+            one('S', 'C', 5_500, 100, 120),
+            one('S', 'P', 5_200, 100, 350),
+        ],
+    )?;
+    print_set(
+        rt,
+        "4: long P 4800 at 150, long U",
+        book,
+        4,
+        &[one('L', 'P', 4_800, 100, 150), one('L', 'U', 0, 0, 0)],
+    )
 }
 
 fn print_conversions(rt: &LibcRuntime, book: &Sheet) -> Result<(), AnyError> {
-    print_set(rt, "5: long P 5000 at 180, short C 5100 at 140, long F 5060", book, 5, &[one('L', 'P', 5_000, 100, 180), one('S', 'C', 5_100, 100, 140), one('L', 'F', 0, 100, 5_060)])?;
-    print_set(rt, "6: short P 5000 at 180, long C 5100 at 140, short F 5060", book, 6, &[one('S', 'P', 5_000, 100, 180), one('L', 'C', 5_100, 100, 140), one('S', 'F', 0, 100, 5_060)])
+    print_set(
+        rt,
+        "5: long P 5000 at 180, short C 5100 at 140, long F 5060",
+        book,
+        5,
+        &[
+            one('L', 'P', 5_000, 100, 180),
+            one('S', 'C', 5_100, 100, 140),
+            one('L', 'F', 0, 100, 5_060),
+        ],
+    )?;
+    print_set(
+        rt,
+        "6: short P 5000 at 180, long C 5100 at 140, short F 5060",
+        book,
+        6,
+        &[
+            one('S', 'P', 5_000, 100, 180),
+            one('L', 'C', 5_100, 100, 140),
+            one('S', 'F', 0, 100, 5_060),
+        ],
+    )
 }
 
 fn print_units(rt: &LibcRuntime) -> Result<(), AnyError> {

@@ -1,6 +1,6 @@
 // What a position requires alone, over any market.
 ghost use mathlib.Core.Path.{_≡_};
-ghost use Prim.Native.Nat.{_≤_};
+ghost use Prim.Native.Nat.{_-_, _≤_};
 ghost use lib.IntN.{pos};
 ghost use Rattle.positions.specs.Records.{terms};
 ghost use Rattle.pricing.specs.Options.{inTheMoney, outOfTheMoney, timeValue, countedTimeValue, longOption, beforeFloor, floorAmount, shortOption};
@@ -20,13 +20,21 @@ pub enum Right {
     Put,
 }
 
+// How far one amount is above another, 0 where it is not.
+fn above(a: Cents, b: Cents) -> Cents
+    ensures { λ r. ⌜ r .amount ≡ a .amount - b .amount ⌝ }
+{
+    let amount = a.amount.saturating_sub(b.amount);
+    Cents { amount }
+}
+
 // What exercise would bring now, in cents a unit.
 pub fn in_the_money(right: Right, strike: Cents, price: Cents) -> Cents
     ensures { λ r. ⌜ r .amount ≡ inTheMoney right (strike .amount) (price .amount) ⌝ }
 {
     match right {
-        Right::Call => Cents { amount: price.amount.saturating_sub(strike.amount) },
-        Right::Put => Cents { amount: strike.amount.saturating_sub(price.amount) },
+        Right::Call => above(price, strike),
+        Right::Put => above(strike, price),
     }
 }
 
@@ -35,8 +43,8 @@ pub fn out_of_the_money(right: Right, strike: Cents, price: Cents) -> Cents
     ensures { λ r. ⌜ r .amount ≡ outOfTheMoney right (strike .amount) (price .amount) ⌝ }
 {
     match right {
-        Right::Call => Cents { amount: strike.amount.saturating_sub(price.amount) },
-        Right::Put => Cents { amount: price.amount.saturating_sub(strike.amount) },
+        Right::Call => above(strike, price),
+        Right::Put => above(price, strike),
     }
 }
 
@@ -44,7 +52,7 @@ pub fn out_of_the_money(right: Right, strike: Cents, price: Cents) -> Cents
 pub fn time_value(premium: Cents, in_the_money: Cents) -> Cents
     ensures { λ r. ⌜ r .amount ≡ timeValue (premium .amount) («in_the_money» .amount) ⌝ }
 {
-    Cents { amount: premium.amount.saturating_sub(in_the_money.amount) }
+    above(premium, in_the_money)
 }
 
 // The time value that counts, in parts: all of it, and half of it from 270 days up.
@@ -75,7 +83,10 @@ pub fn before_floor<M: Market>(market: &M, size: ContractSize, right: Right, opt
 {
     let out = out_of_the_money(right, option.strike_cents(), market.price());
     let required = option.price_cents().parts() + market.option_rate().of(market.price());
-    size.difference(UnitAmount { parts: required }, UnitAmount { parts: out.parts() })
+    size.difference(
+        UnitAmount { parts: required },
+        UnitAmount { parts: out.parts() },
+    )
 }
 
 // A short option's second amount: the premium and the floor rate, of the price for a call, of the strike for a put.

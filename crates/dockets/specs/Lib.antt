@@ -1,0 +1,5 @@
+pub mod Refusals
+pub mod Tally
+pub mod Finding
+pub mod Calls
+pub mod Dockets

@@ -1,0 +1,5 @@
+pub mod Sums
+pub mod Floors
+pub mod Standing
+pub mod Keeps
+pub mod Products

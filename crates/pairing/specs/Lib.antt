@@ -1,0 +1,4 @@
+pub mod Sums
+pub mod Pairing
+pub mod Claims
+pub mod Kept

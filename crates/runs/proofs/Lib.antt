@@ -1,0 +1,4 @@
+pub mod Lines
+pub mod Granted
+pub mod Holding
+pub mod Prefixes
