@@ -58,8 +58,8 @@ fn of_three<M: Market>(
     }
 }
 
-// What a set requires under an article, or why it is refused; a leg too few or too many is a wrong leg.
-pub fn set_requirement<M: Market>(
+// The set by the number of its legs; one too few or too many is a wrong leg.
+fn by_number_of_legs<M: Market>(
     market: &M,
     size: ContractSize,
     article: Article,
@@ -74,4 +74,16 @@ pub fn set_requirement<M: Market>(
         [first, second, third] => of_three(market, size, article, first, second, third),
         _ => Err(ArticleFault::WrongLeg(Leg::Third)),
     }
+}
+
+// What a set requires under an article, or why it is refused; a leg too few or too many is a wrong leg.
+pub fn set_requirement<M: Market>(
+    market: &M,
+    size: ContractSize,
+    article: Article,
+    legs: &[Record],
+) -> Result<u64, ArticleFault>
+    ensures { λ r. ⌜ r ≡ requirementOf (M·Market .quote (now (market .entry))) (size .units) article (map terms (now (legs .entry))) ⌝ }
+{
+    by_number_of_legs(market, size, article, legs)
 }

@@ -40,11 +40,20 @@ pub fn set_takes(size: ContractSize, kind: Kind) -> u16
     of_leg(size, kind)
 }
 
+// A signed number times a whole one.
+fn signed_product(mark: i64, units: u32) -> i128
+    ensures value { λ r. ⌜ r ≡ mark *ℤ pos units ⌝ }
+    ensures low { λ r. ⌜ negℤ (pos (2 ^ 95)) ≤ℤ r ⌝ }
+    ensures high { λ r. ⌜ r ≤ℤ pos (2 ^ 95) ⌝ }
+{
+    mark as i128 * units as i128
+}
+
 // A mark for some units or contracts.
 pub fn mark_times(mark: i64, units: u32) -> i128
     ensures value { λ r. ⌜ r ≡ mark *ℤ pos units ⌝ }
     ensures low { λ r. ⌜ negℤ (pos (2 ^ 95)) ≤ℤ r ⌝ }
     ensures high { λ r. ⌜ r ≤ℤ pos (2 ^ 95) ⌝ }
 {
-    mark as i128 * units as i128
+    signed_product(mark, units)
 }

@@ -1,5 +1,5 @@
 -- Every call leaves the claims sound, and what sound claims answer.
-use mathlib.Core.Path.{_≡_, refl, sym, ap, subst}
+use mathlib.Core.Path.{_≡_, refl, sym, ap, subst, _∙_}
 use mathlib.Core.Bool.{Bool, true, false, cond}
 use mathlib.Core.List.{List, [], _∷_, _++_}
 use Prim.Native.Nat.{ℕ, _+_, _-_}
@@ -21,6 +21,7 @@ use Rattle.pairing.specs.Pairing.{Position, Allowed}
 use Rattle.pairing.specs.Claims.{legsOf, setOf, Sound}
 use Rattle.pairing.specs.Kept.{noClaim, withSets, Covered}
 use Rattle.pairing.proofs.Keeps.{sound-kept}
+use Rattle.pairing.proofs.Standing.{lines-pair}
 use Rattle.certificate.specs.Totals.{free}
 use Rattle.certificate.specs.Certified.{certifyReply}
 use Rattle.certificate.proofs.Promise.{certified, total-same}
@@ -108,6 +109,8 @@ module _ (t : Tables) (law : Lawful t) (s : ℕ) where
   holds y h = record {
     balanced = balanced y h;
     totals = total-same t s (y .held) (y .claims) h;
+    standing = lines-pair t s (y .held) (y .claims) h .0;
+    costs = lines-pair t s (y .held) (y .claims) h .1 ∙ sym (total-same t s (y .held) (y .claims) h);
     certified = λ marks. certified t law s (y .held) (y .claims) marks h (certifyReply t s (y .held) (y .claims) marks) refl;
   }
 

@@ -6,8 +6,8 @@ use lib.IntN.{ℤ}
 use lib.ListN.{length, take, drop}
 use Rattle.std.specs.declared.result.Result.the-variants.{Ok}
 use Rattle.books.specs.Tables.{Tables, Lawful}
-use Rattle.pairing.specs.Pairing.{Position, at}
-use Rattle.pairing.specs.Claims.{taken, total}
+use Rattle.pairing.specs.Pairing.{Position, at, LawfulPairing, cost}
+use Rattle.pairing.specs.Claims.{taken, total, pairingOf}
 use Rattle.certificate.specs.Totals.{free}
 use Rattle.certificate.specs.Certified.{certifyReply, Certified}
 use Rattle.dockets.specs.Tally.{Tally, empty}
@@ -23,10 +23,13 @@ pub record Balanced (size : ℕ) (y : Tally) (p : ℕ) : Type 0 where
   pub balance : units + taken size (y .held) (y .claims) p ≡ at (y .held) p .quantity
 
 -- every position balances; the total answered is the claims standing at the book's requirements plus every other unit entered at
--- its requirement alone; and certify is granted exactly when the marks are fair, and shows what a certificate shows
+-- its requirement alone; the claims standing are a lawful pairing, and it costs that total; and certify is granted exactly when the
+-- marks are fair, and shows what a certificate shows
 pub record Holds (t : Tables) (size : ℕ) (y : Tally) : Type 0 where
   pub balanced : (p : ℕ) → Position (y .held) p → Balanced size y p
   pub totals : totalReply t size y ≡ total t size (y .held) (y .claims)
+  pub standing : LawfulPairing t size (y .held) (pairingOf (y .claims))
+  pub costs : cost t size (y .held) (pairingOf (y .claims)) ≡ totalReply t size y
   pub certified : (marks : List ℤ) → Certified t size (y .held) (y .claims) marks (certifyReply t size (y .held) (y .claims) marks)
 
 -- for a docket just opened over any lawful book, after any list of calls

@@ -13,7 +13,7 @@ use Rattle.articles.specs.declared.Leg.the-variants.{Second, Third}
 use Rattle.articles.specs.declared.ArticleFault.the-variants.{WrongLeg}
 use Rattle.articles.specs.ByArticle.{requirementOf}
 use Rattle.articles.proofs.Shapes.{no-legs, two-legs, three-legs}
-use Rattle.articles.proofs.by_article.set_requirement.Needs as need
+use Rattle.articles.proofs.by_article.by_number_of_legs.Needs as need
 
 one-leg : (q : Quote) (s : ℕ) (a : Article) (xs : List Record) → length xs ≡ 1 → Err (WrongLeg Second) ≡ requirementOf q s a (map terms xs)
 one-leg q s a [] h = absurd (omega arith)

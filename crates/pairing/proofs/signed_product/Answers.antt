@@ -8,7 +8,7 @@ use mir.Val.{SFits, toZ, ofZ}
 use borrow.Author.Needs.{needs}
 use Rattle.std.proofs.shelf.Signed.{ints, toZ-ofZ}
 use Rattle.pairing.proofs.Products.{product, product-fits, as-code}
-use Rattle.pairing.proofs.mark_times.Needs as need
+use Rattle.pairing.proofs.signed_product.Needs as need
 
 pub mul-result : need.mul-result
 mul-result c =
