@@ -1,5 +1,7 @@
 // Amounts with their ranges in their types, and the exact products of them.
 // Prices are whole cents a unit, a rate is in basis points, and a part is one ten-thousandth of a cent, so that cents times a rate are parts.
+#![tactic(auto)]
+
 mod cents;
 mod contract_size;
 mod products;

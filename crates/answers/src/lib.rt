@@ -1,4 +1,6 @@
 // What a file is answered: its figures, or why it is refused; and the same as text.
+#![tactic(auto)]
+
 ghost use Rattle.std.specs.Prelude.{◌≡◌};
 ghost use Rattle.answers.specs.Answers.{from_read, from_certify, file_number, file_details, verdict_of};
 

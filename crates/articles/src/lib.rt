@@ -1,5 +1,7 @@
 // The articles: what a set of positions requires together, and why a set is refused.
 // A set takes one contract of each leg, and as many units of the underlying as a contract has.
+#![tactic(auto)]
+
 ghost use Rattle.std.specs.Prelude.{◌≡◌};
 ghost use Rattle.articles.specs.ByArticle.{legs_of};
 ghost use Rattle.articles.specs.Causes.{cause_number, leg_number, cause_leg, from_market};

@@ -1,4 +1,6 @@
 // A book as a docket knows it: four tables that never change, and a question for each.
+#![tactic(auto)]
+
 ghost use Rattle.std.specs.Prelude.{◌≡◌, length};
 ghost use Rattle.books.specs.Tables.{Tables, Has, Lawful};
 

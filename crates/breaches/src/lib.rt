@@ -1,4 +1,5 @@
 // A breach of fairness.
+#![tactic(auto)]
 
 // An article and its legs, 0 where there is no third; for a position alone, article 0 and the position.
 #[derive(Clone, Copy)]

@@ -1,5 +1,7 @@
 // Answers every case that the index lists and compares what is answered with the output stored beside it;
 // and writes every docket that a case describes, into a buffer that just holds it and into one that does not.
+#![tactic(auto)]
+
 use answers::answer_to;
 use reading::read;
 use std::fs;

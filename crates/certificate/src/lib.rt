@@ -1,4 +1,6 @@
 // Certificates: a total, and a floor under every lawful pairing.
+#![tactic(auto)]
+
 ghost use Rattle.std.specs.Prelude.{◌≡◌, ◌*◌, ◌^◌, ◌≤◌, length, pos, ◌*ℤ◌, neg_ℤ, ◌≤ℤ◌, if◌then◌else◌, None, nat_eq};
 ghost use Rattle.pairing.specs.Sums.{sum_n};
 ghost use Rattle.pairing.specs.Pairing.{Position, at, mark, limit, lot, takes, amount, floor};

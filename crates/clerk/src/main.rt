@@ -1,4 +1,6 @@
 // Serves lists of calls on share dockets, and prints every call with its reply.
+#![tactic(auto)]
+
 use books::Sheet;
 use certificate::Certificate;
 use dockets::Refusal;

@@ -1,4 +1,6 @@
 // Reads a docket's file from standard input, and prints its figures or why it is refused.
+#![tactic(auto)]
+
 use answers::answer_to;
 use std::io;
 use std::io::Read;

@@ -1,4 +1,6 @@
 // A docket: one client's account in one underlying interest, over any book, and the calls on it.
+#![tactic(auto)]
+
 ghost use Rattle.std.specs.Prelude.{◌≡◌};
 ghost use Rattle.dockets.specs.Refusals.{refusal_number, refusal_details, from_record, from_book, from_certify, four_of};
 

@@ -1,4 +1,6 @@
 // Priced examples on one share sheet: their amounts follow from the rules, as the contract of `sample_size` says.
+#![tactic(auto)]
+
 ghost use Rattle.std.specs.Prelude.{◌≡◌};
 ghost use Rattle.market.specs.Share.{shares_on};
 ghost use Rattle.examples.specs.Examples.{sample_size, sample, Priced};

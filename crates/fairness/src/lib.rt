@@ -1,4 +1,6 @@
 // The first breach of fairness.
+#![tactic(auto)]
+
 ghost use Rattle.std.specs.Prelude.{◌≡◌, ℕ, ◌+◌, ◌^◌, ◌<◌, ◌≤◌, List, [], ◌∷◌, length, ℤ, pos, ◌*ℤ◌, neg_ℤ, ◌≤ℤ◌, Some, int_lt};
 ghost use Rattle.books.specs.Tables.{Has};
 ghost use Rattle.pairing.specs.Pairing.{Position, at, mark, lot, worth};

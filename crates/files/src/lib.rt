@@ -1,4 +1,6 @@
 // A whole file, read; and what reading and writing it keep.
+#![tactic(auto)]
+
 ghost use Rattle.std.specs.Prelude.{◌≡◌, ◌≤◌, IfOk};
 ghost use Rattle.std.specs.Result.{result_map_both};
 ghost use Rattle.reading.specs.Contents.{contents_of};

@@ -1,4 +1,6 @@
 // What the rules need to know of the market in one underlying interest, and the two sheets that tell it.
+#![tactic(auto)]
+
 ghost use Rattle.std.specs.Prelude.{◌≡◌, ◌≤◌, IfOk};
 ghost use Rattle.amounts.specs.Rates.{points};
 ghost use Rattle.std.specs.Result.{result_map_both};

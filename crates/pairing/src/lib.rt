@@ -1,4 +1,6 @@
 // Fair marks, lawful pairings, and the claims standing as one of them.
+#![tactic(auto)]
+
 ghost use Rattle.std.specs.Prelude.{◌≡◌, ◌^◌, pos, ◌*ℤ◌, neg_ℤ, ◌≤ℤ◌};
 ghost use Rattle.pairing.specs.Pairing.{of_leg, FloorUnderCost};
 ghost use Rattle.pairing.specs.Claims.{ClaimsPair};

@@ -1,4 +1,6 @@
 // A position as it is entered: six fields, each with its range for its kind.
+#![tactic(auto)]
+
 ghost use Rattle.std.specs.Prelude.{◌≡◌, ◌≤◌};
 ghost use Rattle.positions.specs.Kinds.{other_side};
 ghost use Rattle.positions.specs.Letters.{side_of, kind_of};

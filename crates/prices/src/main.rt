@@ -1,4 +1,6 @@
 // Prices positions and sets of the share book, and prints what was priced and the parts that it requires.
+#![tactic(auto)]
+
 use amounts::ContractSize;
 use books::{Book, Sheet};
 use examples::{sample_sheet, sample_size};

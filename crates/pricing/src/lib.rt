@@ -1,4 +1,6 @@
 // What a position requires alone, over any market.
+#![tactic(auto)]
+
 ghost use Rattle.std.specs.Prelude.{◌≡◌, ◌-◌, ◌≤◌, pos};
 ghost use Rattle.positions.specs.Records.{terms};
 ghost use Rattle.pricing.specs.Options.{in_the_money, out_of_the_money, time_value, counted_time_value, long_option, before_floor, floor_amount, short_option};

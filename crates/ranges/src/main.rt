@@ -1,4 +1,6 @@
 // Tries each range at its edges, and prints what is made and what is refused.
+#![tactic(auto)]
+
 use amounts::ContractSize;
 use market::{CurrencySheet, ShareSheet, SheetFault};
 use positions::{Entry, Field, Record};

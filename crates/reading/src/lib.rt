@@ -1,4 +1,6 @@
 // A docket's file, read to the docket and the marks that it describes.
+#![tactic(auto)]
+
 mod gathered;
 mod taking;
 mod values;

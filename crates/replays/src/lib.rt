@@ -1,4 +1,6 @@
 // A docket made again from what it holds: its positions entered in their order, and then its lines claimed in theirs.
+#![tactic(auto)]
+
 ghost use Rattle.std.specs.Prelude.{◌≡◌, ◌<◌};
 ghost use Rattle.replays.specs.Entries.{side_letter, kind_letter, entry_of};
 ghost use Rattle.replays.specs.Replay.{Replay};

@@ -1,4 +1,6 @@
 // Runs of calls on a docket, and what holds after each call.
+#![tactic(auto)]
+
 ghost use Rattle.std.specs.Prelude.{◌≡◌, true, false, ◌++◌, take, drop, Ok, Err};
 ghost use Rattle.amounts.specs.Ranges.{inside};
 ghost use Rattle.dockets.specs.Dockets.{tally_in};

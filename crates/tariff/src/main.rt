@@ -1,4 +1,6 @@
 // Reads a docket's file from standard input, and prints what one unit or contract of each position requires alone.
+#![tactic(auto)]
+
 use std::io;
 use std::io::Read;
 use tariffs::{Charge, Tariff, tariff_of};

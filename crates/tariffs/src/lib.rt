@@ -1,4 +1,6 @@
 // The tariff: what one unit or contract of each position of a file requires alone.
+#![tactic(auto)]
+
 ghost use Rattle.std.specs.Prelude.{◌≡◌, ◌≤◌, length, take, IfOk, Some};
 ghost use Rattle.std.specs.Result.{result_map_both};
 ghost use Rattle.books.specs.Books.{sheet_tables};

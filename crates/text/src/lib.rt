@@ -1,4 +1,6 @@
 // Numbers, words and fields in the bytes of a file.
+#![tactic(auto)]
+
 pub mod fields;
 pub mod numbers;
 pub mod tokens;

@@ -1,4 +1,6 @@
 // A docket and its marks, written as the file that describes them.
+#![tactic(auto)]
+
 ghost use Rattle.std.specs.Prelude.{◌≡◌, min, length, take, IfOk, string_bytes};
 ghost use Rattle.dockets.specs.Dockets.{tally_in};
 ghost use Rattle.reader.specs.Rates.{rates_on};
