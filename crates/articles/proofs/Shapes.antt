@@ -1,5 +1,5 @@
 -- Lists of legs by their number.
-use Rattle.std.proofs.Common.{◌≡◌, ℕ, ◌≤◌, List, [], ◌∷◌, length, get_or, sym, refl, ap, ◌∙◌, arith}
+use Rattle.std.proofs.Common.{◌≡◌, List, [], ◌∷◌, length, get_or, sym, refl, arith}
 
 pub no_legs : {A : Type 0} (xs : List A) → length xs ≡ 0 → xs ≡ []
 no_legs [] h = refl

@@ -1,5 +1,5 @@
 -- The articles: the legs in their order, the conditions in the order of their causes, and the requirement.
-use Rattle.std.specs.Prelude.{ℕ, Ok, Err, Result}
+use Rattle.std.specs.Prelude.{ℕ, Ok, Result}
 use Rattle.market.specs.Quote.{Quote}
 use Rattle.positions.specs.declared.Side.{Side}
 use Rattle.positions.specs.declared.Side.TheVariants.{Long, Short}
@@ -12,7 +12,7 @@ use Rattle.pricing.specs.declared.Right.TheVariants as right
 use Rattle.pricing.specs.Alone.{positive_part}
 use Rattle.articles.specs.declared.Leg.TheVariants.{First, Second, Third}
 use Rattle.articles.specs.declared.ArticleFault.{ArticleFault}
-use Rattle.articles.specs.Conditions.{Check, leg_is, not_later, same_days, tracked, and_then}
+use Rattle.articles.specs.Conditions.{leg_is, not_later, same_days, tracked, and_then}
 use Rattle.articles.specs.Sets.{spread_amount, straddle_amount, protective_put_amount, conversion_amount, reconversion_amount}
 
 abbrev pub kind_of_right : Right → Kind

@@ -1,5 +1,5 @@
 -- Each article by name: its legs, and what it says of a set.
-use Rattle.std.specs.Prelude.{ℕ, List, [], ◌∷◌, Ok, Err, Result}
+use Rattle.std.specs.Prelude.{ℕ, List, [], ◌∷◌, Err, Result}
 use Rattle.market.specs.Quote.{Quote}
 use Rattle.positions.specs.Records.{Terms}
 use Rattle.pricing.specs.declared.Right.TheVariants.{Call, Put}

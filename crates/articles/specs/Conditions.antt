@@ -7,7 +7,7 @@ use Rattle.positions.specs.declared.Kind.{Kind}
 use Rattle.positions.specs.Kinds.{same_side, same_kind}
 use Rattle.positions.specs.Records.{Terms}
 use Rattle.articles.specs.declared.Leg.{Leg}
-use Rattle.articles.specs.declared.Leg.TheVariants.{First, Second, Third}
+use Rattle.articles.specs.declared.Leg.TheVariants.{Second, Third}
 use Rattle.articles.specs.declared.ArticleFault.{ArticleFault}
 use Rattle.articles.specs.declared.ArticleFault.TheVariants.{WrongLeg, WrongDays}
 use Rattle.articles.specs.Causes.{from_market}

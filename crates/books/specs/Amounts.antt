@@ -1,12 +1,11 @@
 -- Every amount is within the limits of a book.
 use Rattle.std.specs.Prelude.{◌≡◌, ℕ, ◌+◌, ◌-◌, ◌*◌, ◌≤◌, min, max, Bool, true, false, cond, ℤ, pos, negsuc, ◌-ℤ◌, ◌*ℤ◌, Some, None, Option, nat_le}
-use Rattle.std.proofs.Common.{ap, sym, subst, ◌∙◌, ⊎_elim, arith}
+use Rattle.std.proofs.Common.{ap, ⊎_elim, arith}
 use Rattle.std.proofs.Math.Nat.{min-le_left, max-le}
-use Rattle.std.specs.Int.{int_max}
 use Rattle.std.proofs.lemmas.Nat.{mul-le}
 use Rattle.std.proofs.lemmas.Int.{ints}
-use Rattle.std.proofs.str.Laws.{order}
-use Rattle.amounts.proofs.Differences.{times_difference}
+use Rattle.std.proofs.lemmas.Bool.{cases_lt}
+use Rattle.amounts.specs.Differences.{times_difference}
 use Rattle.market.specs.Quote.{Quote, Limits, AtMost}
 use Rattle.positions.specs.declared.Side.{Side}
 use Rattle.positions.specs.declared.Side.TheVariants.{Long, Short}
@@ -14,11 +13,11 @@ use Rattle.positions.specs.declared.Kind.{Kind}
 use Rattle.positions.specs.declared.Kind.TheVariants as kind
 use Rattle.positions.specs.declared.record.Record.{Record}
 use Rattle.positions.specs.Records.{Terms, terms}
-use Rattle.positions.proofs.Ranges.{strike_high, price_high}
+use Rattle.positions.specs.Bounds.{strike_high, price_high}
 use Rattle.pricing.specs.declared.Right.{Right}
 use Rattle.pricing.specs.declared.Right.TheVariants.{Call, Put}
-use Rattle.pricing.specs.Options.{in_the_money, time_value_of, counted_time_value, long_option, before_floor, floor_base, floor_amount, short_option, out_of_the_money}
-use Rattle.pricing.specs.Alone.{positive_part, units, option_by_side, option_alone, whole_or, futures, by_kind, alone}
+use Rattle.pricing.specs.Options.{in_the_money, time_value_of, long_option, before_floor, floor_base, floor_amount, out_of_the_money}
+use Rattle.pricing.specs.Alone.{positive_part, units, option_by_side, whole_or, by_kind, alone}
 use Rattle.articles.specs.Sets.{short_alone, contract, spread_amount, straddle_amount, protective_put_amount, signed_contract, conversion_amount, reconversion_amount}
 
 -- what a record's range gives
@@ -45,7 +44,7 @@ part_of_difference m k =
     ⊎_elim
     (λ lt. let e : pos m -ℤ pos k ≡ negsuc (k - m - 1) = omega (arith, ints) in omega (arith, ap positive_part e))
     (λ le. let e : pos m -ℤ pos k ≡ pos (m - k) = omega (arith, ints) in omega (arith, ap positive_part e))
-    (order m k)
+    (cases_lt m k)
 
 signed_limit : (s x y : ℕ) → s ≤ 1000 → x ≤ 10000000000 → positive_part (pos s *ℤ (pos x -ℤ pos y)) ≤ 10000000000000
 signed_limit s x y h k = omega (arith, ap positive_part (times_difference s x y), part_of_difference (s * x) (s * y), for_contract s x h k)

@@ -1,5 +1,5 @@
 -- The tables of the share book and of the currency book.
-use Rattle.std.specs.Prelude.{ℕ, cond, List, map, ◌==◌}
+use Rattle.std.specs.Prelude.{ℕ, cond, map, ◌==◌}
 use Rattle.std.specs.Result.{result_map_both}
 use Rattle.market.specs.Quote.{Quote}
 use Rattle.market.specs.Share.{share_quote, shares_on}

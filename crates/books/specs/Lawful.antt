@@ -1,6 +1,6 @@
 -- A book over a market that keeps its limits is lawful.
-use Rattle.std.specs.Prelude.{◌≡◌, ℕ, ◌*◌, ◌≤◌, Bool, true, false, cond, eqb, leb, List, [], ◌∷◌, map, length, Some, None, Ok, Err, Option, Result}
-use Rattle.std.proofs.Common.{ap, arith, rules}
+use Rattle.std.specs.Prelude.{◌≡◌, ℕ, ◌*◌, ◌≤◌, List, [], ◌∷◌, map, Some, None, Ok, Err, Option, Result}
+use Rattle.std.proofs.Common.{ap, arith}
 use Rattle.std.specs.Result.{result_map_both}
 use Rattle.std.proofs.lemmas.Nat.{mul-le}
 use Rattle.market.specs.declared.MarketFault.TheVariants.{NoTracking}
@@ -20,12 +20,19 @@ use Rattle.articles.specs.declared.Leg.{Leg}
 use Rattle.articles.specs.declared.Leg.TheVariants.{First, Second, Third}
 use Rattle.articles.specs.declared.ArticleFault.{ArticleFault}
 use Rattle.articles.specs.declared.ArticleFault.TheVariants.{WrongLeg, WrongDays, Market}
-use Rattle.articles.specs.Causes.{leg_number, cause_number, cause_leg}
+use Rattle.articles.specs.Causes.{leg_number}
 use Rattle.articles.specs.Conditions.{leg_is, not_later, same_days, tracked_at, and_then}
 use Rattle.articles.specs.Articles.{kind_of_right, spread, straddle, protective_put, aligned, conversion, reconversion, receipt_call}
 use Rattle.articles.specs.ByArticle.{legs_of, of_two, of_three, requirement_of}
-use Rattle.books.specs.Tables.{Tables, Size, Within, Lawful}
-use Rattle.books.specs.Books.{raised, tables_over}
+use Rattle.books.specs.Tables.{Within, Lawful}
+use Rattle.market.specs.declared.share_sheet.ShareSheet.{ShareSheet}
+use Rattle.market.specs.declared.currency_sheet.CurrencySheet.{CurrencySheet}
+use Rattle.market.specs.Share.{share_quote, shares_on}
+use Rattle.market.specs.Currency.{currency_quote, currency_on}
+use Rattle.market.specs.Limits.{share_limits, currency_limits}
+use Rattle.books.specs.declared.sheets.Sheet.{Sheet}
+use Rattle.books.specs.declared.sheets.Sheet.TheVariants as sheet
+use Rattle.books.specs.Books.{raised, share_article, currency_article, tables_over, share_tables, currency_tables, sheet_tables}
 use Rattle.books.specs.Amounts.{Bounded, bounded, unit_limit, alone_limit, spread_limit, straddle_limit, protective_limit, conversion_limit, reconversion_limit}
 
 -- ---- causes
@@ -164,3 +171,15 @@ lawful_over count article q some few l = record {
   alone_alike = λ s r x e. ap (alone q s) e;
   paired_alike = λ s number legs others e. ap (λ ts. result_map_both (λ parts. parts) raised (requirement_of q s (article number) ts)) e;
 }
+
+-- ---- the books
+
+pub share_lawful : (s : ShareSheet) → Lawful (share_tables (share_quote (shares_on s)))
+share_lawful s = lawful_over 6 share_article (share_quote (shares_on s)) (omega arith) (omega arith) (share_limits s)
+
+pub currency_lawful : (c : CurrencySheet) → Lawful (currency_tables (currency_quote (currency_on c)))
+currency_lawful c = lawful_over 5 currency_article (currency_quote (currency_on c)) (omega arith) (omega arith) (currency_limits c)
+
+pub sheet_lawful : (s : Sheet) → Lawful (sheet_tables s)
+sheet_lawful (sheet.Share s) = share_lawful s
+sheet_lawful (sheet.Currency c) = currency_lawful c

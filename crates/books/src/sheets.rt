@@ -3,10 +3,7 @@ ghost use Rattle.std.specs.Prelude.{◌≡◌};
 ghost use Rattle.market.specs.Share.{share_quote, shares_on};
 ghost use Rattle.market.specs.Currency.{currency_quote, currency_on};
 ghost use Rattle.books.specs.Books.{share_article, currency_article, share_tables, currency_tables, sheet_tables, raised};
-ghost use Rattle.std.proofs.Common.{arith};
-ghost use Rattle.market.specs.Limits.{share_limits, currency_limits};
-ghost use Rattle.books.specs.Lawful.{lawful_over};
-ghost use Rattle.books.specs.declared.sheets.Sheet.TheVariants.{Share, Currency};
+ghost use Rattle.books.specs.Lawful.{share_lawful, currency_lawful, sheet_lawful};
 
 use crate::{Book, BookFault};
 use amounts::ContractSize;
@@ -59,7 +56,7 @@ fn currency_article(number: u8) -> Article
 impl Book for ShareSheet {
     ghost tables = { λ s. share_tables (share_quote (shares_on s)) };
 
-    ghost lawful = { λ b. lawful_over 6 share_article (share_quote (shares_on b)) (omega arith) (omega arith) (share_limits b) };
+    ghost lawful = { share_lawful };
 
     fn articles(&self) -> u8 {
         6
@@ -81,7 +78,7 @@ impl Book for ShareSheet {
 impl Book for CurrencySheet {
     ghost tables = { λ c. currency_tables (currency_quote (currency_on c)) };
 
-    ghost lawful = { λ b. lawful_over 5 currency_article (currency_quote (currency_on b)) (omega arith) (omega arith) (currency_limits b) };
+    ghost lawful = { currency_lawful };
 
     fn articles(&self) -> u8 {
         5
@@ -110,10 +107,7 @@ pub enum Sheet {
 impl Book for Sheet {
     ghost tables = { sheet_tables };
 
-    ghost lawful = { elim [
-      | Share s ↦ lawful_over 6 share_article (share_quote (shares_on s)) (omega arith) (omega arith) (share_limits s)
-      | Currency c ↦ lawful_over 5 currency_article (currency_quote (currency_on c)) (omega arith) (omega arith) (currency_limits c)
-    ] };
+    ghost lawful = { sheet_lawful };
 
     fn articles(&self) -> u8 {
         match self {

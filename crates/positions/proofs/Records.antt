@@ -1,13 +1,11 @@
 -- What passes every check is the record.
-use Rattle.std.proofs.Common.{◌≡◌, ℕ, Bool, true, false, cond, Some, None, Ok, Err, Option, Result, sym, refl, ap, ◌∙◌, arith}
+use Rattle.std.proofs.Common.{◌≡◌, ℕ, Bool, true, false, Some, Ok, Err, sym, refl, ap, ◌∙◌, arith}
 use mathlib.Core.Bool.{Bool-set}
 use Rattle.positions.specs.declared.Side.{Side}
 use Rattle.positions.specs.declared.Kind.{Kind}
 use Rattle.positions.specs.declared.Field.TheVariants as field
 use Rattle.positions.specs.declared.Entry.{Entry}
-use Rattle.positions.specs.declared.RecordFault.{RecordFault}
 use Rattle.positions.specs.declared.RecordFault.TheVariants.{OutOfRange}
-use Rattle.positions.specs.declared.record.Record.{Record}
 use Rattle.positions.specs.Letters.{side_of, kind_for}
 use Rattle.positions.specs.Ranges.{in_range}
 use Rattle.positions.specs.Records.{decide, judged, ranged, kinds_of, sides_of, record_of}

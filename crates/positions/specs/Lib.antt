@@ -3,3 +3,4 @@ pub mod Kinds
 pub mod Ranges
 pub mod Refusals
 pub mod Records
+pub mod Bounds

@@ -8,8 +8,8 @@ use Rattle.positions.specs.Ranges.{in_range}
 use Rattle.pairing.specs.Pairing.{in_range_lem, no_record}
 use Rattle.certificate.proofs.at.Goals as goal
 
-pub invariant-of-result : goal.invariant-of-result
-invariant-of-result c = (in_range_lem, tt)
+pub invariant_of-result : goal.invariant_of-result
+invariant_of-result c = record { ranged = in_range_lem }
 
 -- the record of zeros, by any proof that it is in range
 abbrev filler : in_range Long Units 0 0 0 ≡ true → Record

@@ -8,7 +8,7 @@ pub loop-i-preserved : goal.loop-i-preserved
 loop-i-preserved g c =
     let f = free_amount (g.B.Book.tables c.args.book.now) c.args.size.units c.args.held.now c.args.claims.now in
     let more = sum_n_more c.loop-i.i f in
-    (omega (arith, more, c.free-amount-total.ensures.value), omega (arith, c.free-amount-total.ensures.bound))
+    (omega (arith, more, c.free_amount-total.ensures.value), omega (arith, c.free_amount-total.ensures.bound))
 
 pub returns : goal.returns
 returns g c =

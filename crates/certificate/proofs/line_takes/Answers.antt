@@ -5,5 +5,5 @@ pub returns : goal.returns
 returns c =
     let sets = c.args.l.now.sets in
     let few : sets ≤ 2 ^ 64 = omega arith in
-    let most : sets * c.legs-take.result ≤ 2 ^ 64 * 196605 = mul-le-mul few c.legs-take.ensures.bound in
-    record { value = c.product.ensures ∙ ap (λ (n : ℕ). sets * n) c.legs-take.ensures.value; bound = omega (arith, c.product.ensures) }
+    let most : sets * c.legs_take.result ≤ 2 ^ 64 * 196605 = mul-le-mul few c.legs_take.ensures.bound in
+    record { value = c.product.ensures ∙ ap (λ (n : ℕ). sets * n) c.legs_take.ensures.value; bound = omega (arith, c.product.ensures) }

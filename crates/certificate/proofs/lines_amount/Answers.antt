@@ -10,8 +10,8 @@ loop-l-preserved g c =
     let t = g.B.Book.tables c.args.book.now in
     let s = c.args.size.units in
     let held = c.args.held.now in
-    let more = sum_more (lines_amount t s held) (λ (l : Claim). l.sets * line_amount t s held l) (λ _ _. refl) c.args.claims.now c.loop-l.l-index c.whole-line-total.result _ c.loop-l-test.true c.whole-line-total.ensures.value in
-    (omega (arith, more), omega (arith, c.whole-line-total.ensures.bound))
+    let more = sum_more (lines_amount t s held) (λ (l : Claim). l.sets * line_amount t s held l) (λ _ _. refl) c.args.claims.now c.loop-l.l-index c.whole_line-total.result _ c.loop-l-test.true c.whole_line-total.ensures.value in
+    (omega (arith, more), omega (arith, c.whole_line-total.ensures.bound))
 
 pub returns : goal.returns
 returns g c =

@@ -11,8 +11,8 @@ loop-l-preserved c =
     let s = c.args.size.units in
     let held = c.args.held.now in
     let p = c.args.p in
-    let more = sum_more (λ (ls : List Claim). taken s held ls p) (λ (l : Claim). l.sets * takes s held (legs_of l) p) (λ _ _. refl) c.args.claims.now c.loop-l.l-index c.line-takes-total.result _ c.loop-l-test.true c.line-takes-total.ensures.value in
-    (omega (arith, more), omega (arith, c.line-takes-total.ensures.bound))
+    let more = sum_more (λ (ls : List Claim). taken s held ls p) (λ (l : Claim). l.sets * takes s held (legs_of l) p) (λ _ _. refl) c.args.claims.now c.loop-l.l-index c.line_takes-total.result _ c.loop-l-test.true c.line_takes-total.ensures.value in
+    (omega (arith, more), omega (arith, c.line_takes-total.ensures.bound))
 
 pub returns : goal.returns
 returns c =

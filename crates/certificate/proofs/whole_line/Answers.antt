@@ -9,6 +9,6 @@ returns g c =
     let sets = c.args.l.now.sets in
     let few : sets ≤ 2 ^ 64 = omega arith in
     let limit = line_limit (g.B.Book.tables b) (g.met.B.Book.lawful b) size.units c.args.held.now c.args.l.now (size.low, size.high) in
-    let each : c.line-amount.result ≤ 10000000000000 = omega (arith, c.line-amount.ensures) in
-    let most : sets * c.line-amount.result ≤ 2 ^ 64 * 10000000000000 = mul-le-mul few each in
-    record { value = c.product.ensures ∙ ap (λ (n : ℕ). sets * n) c.line-amount.ensures; bound = omega (arith, c.product.ensures) }
+    let each : c.line_amount.result ≤ 10000000000000 = omega (arith, c.line_amount.ensures) in
+    let most : sets * c.line_amount.result ≤ 2 ^ 64 * 10000000000000 = mul-le-mul few each in
+    record { value = c.product.ensures ∙ ap (λ (n : ℕ). sets * n) c.line_amount.ensures; bound = omega (arith, c.product.ensures) }

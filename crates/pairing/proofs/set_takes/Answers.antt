@@ -4,4 +4,4 @@ use Rattle.pairing.proofs.Standing.{lines_pair}
 use Rattle.pairing.proofs.set_takes.Goals as goal
 
 pub returns : goal.returns
-returns c = record { value = c.of-leg.ensures; floor = floor_under_cost; claims = lines_pair; kept = sound_kept }
+returns c = record { value = c.of_leg.ensures; floor = floor_under_cost; claims = lines_pair; kept = sound_kept }

@@ -4,8 +4,8 @@ use Rattle.std.proofs.lemmas.Int.{ints, to_z-of_z}
 use Rattle.pairing.proofs.Products.{product, product_fits, as_code}
 use Rattle.pairing.proofs.signed_product.Goals as goal
 
-pub overflow-mul-result : goal.overflow-mul-result
-overflow-mul-result c =
+pub overflow_mul-result : goal.overflow_mul-result
+overflow_mul-result c =
     let u : c.args.units < 2 ^ 32 = omega arith in
     subst (λ (z : ℤ). SFits w128 z) (sym (as_code c.args.mark c.args.units c.ranges.mark u))
     (product_fits c.args.mark c.args.units (product c.args.mark c.args.units c.ranges.mark u))

@@ -6,10 +6,10 @@ use Rattle.runs.proofs.run.Goals as goal
 
 pub returns : goal.returns
 returns g c =
-    let o = c.in-ok-docket.ensures in
-    let all = c.serve-all.ensures in (
+    let o = c.in_ok-docket.ensures in
+    let all = c.serve_all.ensures in (
       o.0,
       all.book ∙ o.1,
       ap (λ (n : ContractSize). n.units) all.size ∙ o.2,
-      opened g.B.Book.tables o.1 o.2 o.3 (g.met.B.Book.lawful c.args.book) c.args.calls.now c.args.places.now c.serve-all.new.places (tally_in c.serve-all.new.docket.state) all.replies all.tally,
+      opened g.B.Book.tables o.1 o.2 o.3 (g.met.B.Book.lawful c.args.book) c.args.calls.now c.args.places.now c.serve_all.new.places (tally_in c.serve_all.new.docket.state) all.replies all.tally,
     )

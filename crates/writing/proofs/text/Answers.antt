@@ -17,9 +17,9 @@ returns c =
     let whole =
     file_text_lem content
     (ap (λ (s : ContractSize). s.units) c.size-size.ensures)
-    (c.in-ok-rates.ensures ∙ ap (λ s. flat_map ended (sheet_lines (rates_on s))) c.book.ensures)
-    (c.in-ok-positions.ensures ∙ ap (flat_map (λ r. ended (position_line r))) c.positions.ensures.items)
-    (c.in-ok-claims.ensures ∙ ap (flat_map (λ l. ended (claim_line l))) c.claims.ensures.items)
-    (c.in-ok-marks.ensures ∙ ap (flat_map (λ m. ended (mark_line m))) (take_least c.marks-written.result 32 marks c.marks-written.ensures))
+    (c.in_ok-rates.ensures ∙ ap (λ s. flat_map ended (sheet_lines (rates_on s))) c.book.ensures)
+    (c.in_ok-positions.ensures ∙ ap (flat_map (λ r. ended (position_line r))) c.positions.ensures.items)
+    (c.in_ok-claims.ensures ∙ ap (flat_map (λ l. ended (claim_line l))) c.claims.ensures.items)
+    (c.in_ok-marks.ensures ∙ ap (flat_map (λ m. ended (mark_line m))) (take_least c.marks_written.result 32 marks c.marks_written.ensures))
     in
     IfOk-weaker c.format.result _ _ (λ t e. e ∙ whole) c.format.ensures.ok

@@ -10,15 +10,15 @@ use Rattle.answers.proofs.Summing.{summary_ok, summary_refused}
 use Rattle.answers.proofs.Showing.{rates_lawful, led_holds, shows, unfair}
 use Rattle.answers.proofs.figures.summarize.Goals as goal
 
-pub returns-in-err-summary : goal.returns-in-err-summary
-returns-in-err-summary c =
-    let x = c.in-ok-contents.contents in
+pub returns-in_err-summary : goal.returns-in_err-summary
+returns-in_err-summary c =
+    let x = c.in_ok-contents.contents in
     let ms = c.load.new.marks in
     let off : x.marks - 0 ≡ x.marks = omega arith in
     let k : Content = contents_of x ms in
-    let p = err_from_is_err_and c.from-residual-in-err-summary.result c.from-residual-in-err-summary.ensures.1 in
-    let read = c.in-ok-contents.ensures.value in
-    let f = c.in-err-summary.ensures.figures ∙ ap (λ j. figures_by (content k.size k.rates (record { tally = k.tally; marks = take j ms })) (take j ms)) off in
+    let p = err_from_is_err_and c.from-residual-in_err-summary.result c.from-residual-in_err-summary.ensures.1 in
+    let read = c.in_ok-contents.ensures.value in
+    let f = c.in_err-summary.ensures.figures ∙ ap (λ j. figures_by (content k.size k.rates (record { tally = k.tally; marks = take j ms })) (take j ms)) off in
     let h = led_holds _ k.size k.tally (rates_lawful x.docket.book) (c.load.ensures.faithful.led c.args.file.now k (sym read)) in
     let e = p.1 ∙ ap Err p.2 in
     record {
@@ -28,13 +28,13 @@ returns-in-err-summary c =
 
 pub returns : goal.returns
 returns c =
-    let x = c.in-ok-contents.contents in
+    let x = c.in_ok-contents.contents in
     let ms = c.load.new.marks in
     let off : x.marks - 0 ≡ x.marks = omega arith in
     let k : Content = contents_of x ms in
-    let s = c.in-ok-summary.summary in
-    let read = c.in-ok-contents.ensures.value in
-    let e = c.in-ok-summary.ensures in
+    let s = c.in_ok-summary.summary in
+    let read = c.in_ok-contents.ensures.value in
+    let e = c.in_ok-summary.ensures in
     let f = e.figures ∙ ap (λ j. figures_by (content k.size k.rates (record { tally = k.tally; marks = take j ms })) (take j ms)) off in
     let h = led_holds _ k.size k.tally (rates_lawful x.docket.book) (c.load.ensures.faithful.led c.args.file.now k (sym read)) in
     record {

@@ -1,4 +1,4 @@
-use Rattle.std.proofs.Common.{◌≡◌, ℕ, ◌≤◌, List, [], ◌∷◌, map, length, Ok, Err, sym, refl, ap, ◌∙◌, arith, rules}
+use Rattle.std.proofs.Common.{◌≡◌, ℕ, ◌≤◌, List, [], ◌∷◌, map, length, Err, sym, refl, ap, ◌∙◌, arith, rules}
 use Rattle.market.specs.Quote.{Quote}
 use Rattle.positions.specs.declared.record.Record.{Record}
 use Rattle.positions.specs.Records.{terms}
@@ -32,12 +32,12 @@ returns-in-len1 g c = one_leg (g.M.Market.quote c.args.market.now) c.args.size.u
 pub returns-in-len2 : goal.returns-in-len2
 returns-in-len2 g c =
     let two : length c.args.legs.now ≡ 2 = search rules in
-    c.of-two.ensures ∙ ap (λ (xs : List Record). requirement_of (g.M.Market.quote c.args.market.now) c.args.size.units c.args.article (map terms xs)) (sym (two_legs c.args.legs.now c.first-item.result c.second-item.result two c.first-item.is c.second-item.is))
+    c.of_two.ensures ∙ ap (λ (xs : List Record). requirement_of (g.M.Market.quote c.args.market.now) c.args.size.units c.args.article (map terms xs)) (sym (two_legs c.args.legs.now c.first-item.result c.second-item.result two c.first-item.is c.second-item.is))
 
 pub returns-in-len3 : goal.returns-in-len3
 returns-in-len3 g c =
     let three : length c.args.legs.now ≡ 3 = search rules in
-    c.of-three.ensures ∙ ap (λ (xs : List Record). requirement_of (g.M.Market.quote c.args.market.now) c.args.size.units c.args.article (map terms xs)) (sym (three_legs c.args.legs.now c.first-item-then-legs-lt4.result c.second-item-then-legs-lt4.result c.third-item.result three c.first-item-then-legs-lt4.is c.second-item-then-legs-lt4.is c.third-item.is))
+    c.of_three.ensures ∙ ap (λ (xs : List Record). requirement_of (g.M.Market.quote c.args.market.now) c.args.size.units c.args.article (map terms xs)) (sym (three_legs c.args.legs.now c.first-item-then-legs-lt4.result c.second-item-then-legs-lt4.result c.third-item.result three c.first-item-then-legs-lt4.is c.second-item-then-legs-lt4.is c.third-item.is))
 
-pub returns-in-default : goal.returns-in-default
-returns-in-default g c = many_legs (g.M.Market.quote c.args.market.now) c.args.size.units c.args.article c.args.legs.now (search rules)
+pub returns-in_default : goal.returns-in_default
+returns-in_default g c = many_legs (g.M.Market.quote c.args.market.now) c.args.size.units c.args.article c.args.legs.now (search rules)

@@ -3,4 +3,4 @@ use Rattle.reader.proofs.lines.value_line.Goals as goal
 
 pub returns : goal.returns
 unfolding value_line
-returns g c = c.due-value.ensures
+returns g c = c.due_value.ensures

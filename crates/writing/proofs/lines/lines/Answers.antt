@@ -13,10 +13,10 @@ loop-item-preserved g c =
     let i = c.loop-item.item-index in
     let x = c.item-item.result in
     let h : i < length xs = search rules in
-    let line = c.as-str.ensures.value ∙ c.in-ok-line.ensures ∙ ap text c.item-item.is in
-    let more = pushed c.as-str.result.now c.loop-item.invariant c.in-ok-push-str.was c.push-str.ensures.bytes in
-    pushed (10 ∷ []) more c.in-ok-push-str-2.was c.push-str-in-loop-item.ensures.bytes
-    ∙ append_assoc (flat_map f (take i xs)) c.as-str.result.now (10 ∷ [])
+    let line = c.as_str.ensures.value ∙ c.in_ok-line.ensures ∙ ap text c.item-item.is in
+    let more = pushed c.as_str.result.now c.loop-item.invariant c.in_ok-push_str.was c.push_str.ensures.bytes in
+    pushed (10 ∷ []) more c.in_ok-push_str-2.was c.push_str-in-loop-item.ensures.bytes
+    ∙ append_assoc (flat_map f (take i xs)) c.as_str.result.now (10 ∷ [])
     ∙ ap (λ l. flat_map f (take i xs) ++ ended l) line
     ∙ flat_map_more f [] (take i xs) (get_or xs i x)
     ∙ ap (flat_map f) (sym (take_more xs i x h))

@@ -19,8 +19,8 @@ module _ {X : Type 0} (xs : List X) (a e : ℕ) (high : a < e) (long : e ≤ len
       ∙ ap (λ (w : List X). w ++ rest) (sym (take-take a e xs (omega arith)))
       ∙ ap (λ (w : List X). take a (take e xs) ++ w) (ap (drop 1) (between_is xs a e) ∙ drop-drop 1 a (take e xs))
 
-pub offset-bounds-self-i : goal.offset-bounds-self-i
-offset-bounds-self-i c = search (rules, length-take)
+pub offset_bounds-self-i : goal.offset_bounds-self-i
+offset_bounds-self-i c = search (rules, length-take)
 
 pub returns : goal.returns
 returns c =
@@ -31,5 +31,5 @@ returns c =
     record {
       size = refl;
       held = refl;
-      lines = turned s.lines i s.standing high long c.rotate-left.new.self c.rotate-left.ensures.after;
+      lines = turned s.lines i s.standing high long c.rotate_left.new.self c.rotate_left.ensures.after;
     }

@@ -1,10 +1,10 @@
 use Rattle.std.proofs.Common.{arith}
-use Rattle.positions.proofs.Ranges.{strike_high, price_high}
+use Rattle.positions.specs.Bounds.{strike_high, price_high}
 use Rattle.positions.proofs.record.Record.strike_cents.Goals as goal
 
-pub invariant-of-result : goal.invariant-of-result
-invariant-of-result c =
+pub invariant_of-result : goal.invariant_of-result
+invariant_of-result c =
     let r = c.args.self.now in
     let strike = strike_high r.side r.kind r.strike r.days r.price r.ranged in
     let price = price_high r.side r.kind r.strike r.days r.price r.ranged in
-    (omega arith, tt)
+    record { high = omega arith }

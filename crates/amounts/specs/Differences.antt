@@ -1,8 +1,8 @@
 -- Products and differences of whole numbers.
-use Rattle.std.proofs.Common.{◌≡◌, ℕ, suc, ◌-◌, ◌*◌, ◌≤◌, ℤ, pos, negsuc, ◌-ℤ◌, ◌*ℤ◌, neg_ℤ, nat_abs, ap, ◌∙◌, ⊎_elim, mul-le-mul_left, arith}
+use Rattle.std.proofs.Common.{◌≡◌, ℕ, suc, ◌-◌, ◌*◌, ◌≤◌, pos, negsuc, ◌-ℤ◌, ◌*ℤ◌, neg_ℤ, nat_abs, ap, ◌∙◌, ⊎_elim, mul-le-mul_left, arith}
 use native.Mathlib.Nat.{mul-sub}
 use Rattle.std.proofs.lemmas.Int.{ints}
-use Rattle.std.proofs.str.Laws.{order}
+use Rattle.std.proofs.lemmas.Bool.{cases_lt}
 
 -- a factor goes over a difference
 pub times_difference : (s x y : ℕ) → pos s *ℤ (pos x -ℤ pos y) ≡ pos (s * x) -ℤ pos (s * y)
@@ -15,7 +15,7 @@ times_difference s x y =
     (λ le.
     let e : pos x -ℤ pos y ≡ pos (x - y) = omega (arith, ints) in
     ap (λ z. pos s *ℤ z) e ∙ omega (arith, ints, mul-sub s x y, mul-le-mul_left {m = y} {n = x} s (omega arith)))
-    (order x y)
+    (cases_lt x y)
 
 -- a difference is no greater than its terms' bound
 pub difference_bound : (a b k : ℕ) → a ≤ k → b ≤ k → nat_abs (pos a -ℤ pos b) ≤ k
@@ -23,4 +23,4 @@ difference_bound a b k h i =
     ⊎_elim
     (λ lt. let e : pos a -ℤ pos b ≡ negsuc (b - a - 1) = omega (arith, ints) in omega (arith, ap nat_abs e))
     (λ le. let e : pos a -ℤ pos b ≡ pos (a - b) = omega (arith, ints) in omega (arith, ap nat_abs e))
-    (order a b)
+    (cases_lt a b)
