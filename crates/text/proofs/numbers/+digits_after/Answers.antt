@@ -2,14 +2,14 @@ use Rattle.std.proofs.Common.{◌≡◌, suc, ◌-◌, ◌<◌, length, get_or, 
 use Rattle.text.proofs.Digits.{small, room_more, digits_none, digits_more}
 use Rattle.text.proofs.numbers.+digits_after.Goals as goal
 
-pub overflow-mul-n : goal.overflow-mul-n
-overflow-mul-n t c = omega (arith, small c.args.n (length c.args.s.now) _ c.requires)
+pub overflow_mul-n : goal.overflow_mul-n
+overflow_mul-n t c = omega (arith, small c.args.n (length c.args.s.now) _ c.requires)
 
-pub overflow-add-n : goal.overflow-add-n
-overflow-add-n t c = omega (arith, small c.args.n (length c.args.s.now) _ c.requires)
+pub overflow_add-n : goal.overflow_add-n
+overflow_add-n t c = omega (arith, small c.args.n (length c.args.s.now) _ c.requires)
 
-pub digits-after-requires : goal.digits-after-requires
-digits-after-requires t c =
+pub digits_after-requires : goal.digits_after-requires
+digits_after-requires t c =
     let s = c.args.s.now in
     let some : 0 < length s = search rules in
     let k : length (take (length s - 1) (drop 1 s)) ≡ length s - 1 = search rules in
@@ -26,6 +26,6 @@ returns-in-empty t c = record {
 
 pub returns-in-48-to-57 : goal.returns-in-48-to-57
 returns-in-48-to-57 t c = record {
-  value = c.digits-after.ensures.value ∙ digits_more c.args.n c.args.s.now (search rules) (search rules) (search rules);
-  bound = c.digits-after.ensures.bound;
+  value = c.digits_after.ensures.value ∙ digits_more c.args.n c.args.s.now (search rules) (search rules) (search rules);
+  bound = c.digits_after.ensures.bound;
 }

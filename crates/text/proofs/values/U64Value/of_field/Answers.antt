@@ -9,4 +9,4 @@ returns-in-Some-Number c =
     let f = c.args.field.now in
     let s = c.in-Some-Number.digits.now in
     let e : word_of f ≡ Some (number s) = search rules in
-    c.natural-of.ensures.value ∙ ap natural (same_bytes f (number s) e)
+    c.natural_of.ensures.value ∙ ap natural (same_bytes f (number s) e)
