@@ -22,7 +22,7 @@ returns-then-is_empty-2 c =
     let some : (length rest ≡ 0 → ⊥) = search rules in
     let parts = c.split_at-2.ensures in
     let e = split_at 10 rest f a c.find-n.result c.find-n.ensures.value parts.front parts.back ∙ ap (λ l. f ∷ l) (tails_none 10 a none) in
-    unended s.line (split 10 (drop s.at s.file.now)) f (ap (split 10) (sym c.split_at.ensures.back) ∙ e) (omega (arith, parts.front-len, parts.back_len, some))
+    unended s.line (split 10 (drop s.at s.file.now)) f (ap (split 10) (sym c.split_at.ensures.back) ∙ e) (omega (arith, parts.front_len, parts.back_len, some))
 
 pub returns : goal.returns
 returns c =
