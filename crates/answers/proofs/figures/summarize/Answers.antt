@@ -16,7 +16,7 @@ returns-in_err-summary c =
     let ms = c.load.new.marks in
     let off : x.marks - 0 ≡ x.marks = omega arith in
     let k : Content = contents_of x ms in
-    let p = err_from_is_err_and c.from-residual-in_err-summary.result c.from-residual-in_err-summary.ensures.1 in
+    let p = err_from_is_err_and c.from_residual-in_err-summary.result c.from_residual-in_err-summary.ensures.1 in
     let read = c.in_ok-contents.ensures.value in
     let f = c.in_err-summary.ensures.figures ∙ ap (λ j. figures_by (content k.size k.rates (record { tally = k.tally; marks = take j ms })) (take j ms)) off in
     let h = led_holds _ k.size k.tally (rates_lawful x.docket.book) (c.load.ensures.faithful.led c.args.file.now k (sym read)) in
