@@ -1,16 +1,16 @@
 -- The search finds the first breach.
-use Rattle.std.proofs.Common.{◌≡◌, ℕ, zero, suc, ◌+◌, ◌<◌, ◌≤◌, Bool, true, false, cond, not, ◌&&◌, eqb, ◌⊎◌, List, [], ◌∷◌, length, ℤ, pos, ◌<ℤ◌, Some, None, Ok, Err, Option, Result, sym, refl, ap, ◌∙◌, subst, inl, inr, ⊎_elim, arith}
+use Rattle.std.proofs.Common.{◌≡◌, ℕ, zero, suc, ◌+◌, ◌<◌, ◌≤◌, Bool, true, false, eqb, ◌⊎◌, List, [], ◌∷◌, length, ℤ, pos, ◌<ℤ◌, Some, None, Ok, Err, Option, Result, sym, refl, ap, ◌∙◌, subst, inl, inr, ⊎_elim, arith}
 use lib.Signed.{lt_z}
 use Rattle.std.proofs.lemmas.Int.{ints}
 use Rattle.std.proofs.lemmas.Bool.{cases_eq, cases_lt, cases_order, eq-eqb, ne_eqb, cond-true, cond-false, and_parts, and_from}
 use Rattle.positions.specs.declared.record.Record.{Record}
 use Rattle.books.specs.declared.BookFault.{BookFault}
 use Rattle.books.specs.Tables.{Tables, Lawful, Has}
-use Rattle.pairing.specs.Pairing.{Position, Positions, at, mark, Set, distinct, answer, amount, requirement, Allowed, worth}
+use Rattle.pairing.specs.Pairing.{Position, Positions, Set, distinct, answer, amount, requirement, Allowed, worth}
 use Rattle.breaches.specs.declared.Breach.{Breach}
-use Rattle.breaches.specs.Search.{or_else, first_of, when, above, unfair, two, three, breach_at, alone_breach, set_breach, two_breach, three_breach, third_of_three, third_leg, second_leg, first_leg, first_alone, first_article, first_breach}
+use Rattle.breaches.specs.Search.{or_else, first_of, when, above, unfair, two, three, breach_at, alone_breach, set_breach, two_breach, three_breach, third_of_three, third_leg, second_leg, first_leg, first_alone, first_article}
 use Rattle.breaches.proofs.Firsts.{none_found}
-use Rattle.breaches.specs.First.{legs_in, set_in, AloneBreach, SetBreach, Breaks, NotAfter, First, SearchFindsFirst}
+use Rattle.breaches.specs.First.{legs_in, set_in, AloneBreach, SetBreach, NotAfter, First, SearchFindsFirst}
 
 never : {X : Type 0} (x : X) {Y : Type 0} → ◌≡◌ {A = Option X} (Some x) None → Y
 never x e = let z : ◌≡◌ {A = ℕ} 0 1 = cc in absurd (let w : ⊥ = omega arith in w)

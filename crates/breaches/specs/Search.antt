@@ -1,5 +1,5 @@
 -- The first breach of fairness: positions alone in order, then articles, then legs 1, 2 and 3 ascending.
-use Rattle.std.specs.Prelude.{◌≡◌, ℕ, zero, suc, ◌+◌, Bool, true, false, cond, ◌&&◌, List, [], ◌∷◌, length, ℤ, pos, Some, None, Ok, Err, Option, Result, ◌==◌, int_lt}
+use Rattle.std.specs.Prelude.{◌≡◌, ℕ, zero, suc, ◌+◌, Bool, false, cond, ◌&&◌, List, [], ◌∷◌, length, ℤ, pos, Some, None, Ok, Err, Option, Result, ◌==◌, int_lt}
 use Rattle.positions.specs.declared.record.Record.{Record}
 use Rattle.books.specs.declared.BookFault.{BookFault}
 use Rattle.books.specs.Tables.{Tables}

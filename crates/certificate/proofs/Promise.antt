@@ -1,5 +1,5 @@
 -- Certify is granted exactly when the marks are fair, and its figures then bound every pairing.
-use Rattle.std.proofs.Common.{◌≡◌, ℕ, zero, suc, ◌+◌, ◌-◌, ◌*◌, ◌<◌, ◌≤◌, Bool, true, false, cond, ◌&&◌, ◌||◌, eqb, leb, List, [], ◌∷◌, length, ℤ, pos, neg_ℤ, ◌≤ℤ◌, Some, None, Ok, Err, Option, Result, sym, refl, ap, ◌∙◌, subst, ⊎_elim, arith}
+use Rattle.std.proofs.Common.{◌≡◌, ℕ, ◌+◌, Bool, true, false, cond, ◌&&◌, eqb, leb, List, [], ◌∷◌, length, ℤ, pos, neg_ℤ, Some, None, Ok, Err, Option, sym, refl, ap, ◌∙◌, subst, arith}
 use lib.Signed.{lt_z}
 use Rattle.std.proofs.lemmas.Int.{ints}
 use Rattle.std.proofs.lemmas.Bool.{eq-eqb, eqb-true, le-leb, and_from, or_parts, or_from, cond-true}
@@ -7,7 +7,7 @@ use Rattle.positions.specs.declared.record.Record.{Record}
 use Rattle.books.specs.Tables.{Tables, Lawful}
 use Rattle.pairing.specs.declared.Claim.{Claim}
 use Rattle.pairing.specs.Sums.{sum_n}
-use Rattle.pairing.specs.Pairing.{Position, at, mark, limit, Within, Fair, floor, Allowed, requirement}
+use Rattle.pairing.specs.Pairing.{at, mark, limit, Within, Fair, floor, Allowed, requirement}
 use Rattle.pairing.specs.Claims.{legs_of, set_of, required_by, ClaimsAllowed, Sound, total, Shown}
 use Rattle.pairing.proofs.Standing.{shown}
 use Rattle.breaches.specs.declared.Breach.{Breach}
@@ -18,7 +18,7 @@ use Rattle.breaches.proofs.Least.{search_finds_first}
 use Rattle.breaches.proofs.Fairness.{none_exactly_if_fair}
 use Rattle.certificate.specs.declared.Certificate.{Certificate}
 use Rattle.certificate.specs.declared.CertifyFault.{CertifyFault}
-use Rattle.certificate.specs.declared.CertifyFault.TheVariants.{NotOneEach, BeyondLimit, Unfair}
+use Rattle.certificate.specs.declared.CertifyFault.TheVariants.{NotOneEach, Unfair}
 use Rattle.certificate.specs.Totals.{known, line_amount, lines_amount, free_amount, computed_total}
 use Rattle.certificate.specs.Certified.{Reply, beyond, beyond_at, first_beyond, unless_beyond, unless_unfair, certify_reply, Certified}
 

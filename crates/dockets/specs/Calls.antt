@@ -10,8 +10,8 @@ use Rattle.articles.specs.declared.Leg.TheVariants.{First, Second, Third}
 use Rattle.books.specs.declared.BookFault.{BookFault}
 use Rattle.books.specs.Tables.{Tables}
 use Rattle.pairing.specs.declared.Claim.{Claim}
-use Rattle.pairing.specs.Pairing.{at, answer, lot}
-use Rattle.pairing.specs.Claims.{set_of, taken}
+use Rattle.pairing.specs.Pairing.{answer, lot}
+use Rattle.pairing.specs.Claims.{set_of}
 use Rattle.pairing.specs.Kept.{no_claim, with_sets}
 use Rattle.certificate.specs.declared.Certificate.{Certificate}
 use Rattle.certificate.specs.Totals.{free, computed_total}

@@ -1,5 +1,5 @@
 -- A table of priced examples, and what it says.
-use Rattle.std.specs.Prelude.{◌≡◌, ℕ, false, List, [], ◌∷◌, Some, Ok, Err}
+use Rattle.std.specs.Prelude.{◌≡◌, ℕ, false, List, [], ◌∷◌, Some, Ok}
 use Rattle.market.specs.Share.{Shares, share_quote}
 use Rattle.positions.specs.declared.Side.{Side}
 use Rattle.positions.specs.declared.Side.TheVariants.{Long, Short}
@@ -7,7 +7,6 @@ use Rattle.positions.specs.declared.Kind.{Kind}
 use Rattle.positions.specs.declared.Kind.TheVariants.{Units, Call, Put, Futures}
 use Rattle.positions.specs.Records.{Terms}
 use Rattle.pricing.specs.Alone.{alone}
-use Rattle.articles.specs.declared.ArticleFault.{ArticleFault}
 use Rattle.articles.specs.ByArticle.{requirement_of}
 use Rattle.books.specs.Books.{share_article}
 

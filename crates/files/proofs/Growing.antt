@@ -29,7 +29,7 @@ use Rattle.reader.specs.Faults.{wrong_key, repeated}
 use Rattle.reader.specs.Lines.{strip}
 use Rattle.reading.specs.Values.{entry_at, claim_at}
 use Rattle.reading.specs.Body.{Body, none, entered, entering, position_taken, claiming, claim_taken, marking, mark_taken, if_key, line_taken, at_end, then_others, body_from}
-use Rattle.writing.specs.Texts.{line, position_line, claim_line, mark_line}
+use Rattle.writing.specs.Texts.{position_line, claim_line, mark_line}
 use Rattle.files.specs.Faithful.{Short, FileMarks}
 use Rattle.files.proofs.Numbers.{SmallSigned, reads_integer}
 use Rattle.files.proofs.Values.{entry_texts, entry_read, claim_read, one_read}

@@ -1,10 +1,10 @@
 -- Fair marks are worth no more than any lawful pairing costs.
-use Rattle.std.proofs.Common.{◌≡◌, ℕ, zero, suc, ◌+◌, ◌-◌, ◌*◌, ◌<◌, ◌≤◌, List, [], ◌∷◌, length, ℤ, pos, ◌+ℤ◌, ◌*ℤ◌, ◌≤ℤ◌, sym, refl, ap, ◌∙◌, subst, arith}
+use Rattle.std.proofs.Common.{◌≡◌, ℕ, ◌+◌, ◌-◌, ◌*◌, List, [], ◌∷◌, length, ℤ, pos, ◌+ℤ◌, ◌*ℤ◌, ◌≤ℤ◌, sym, ap, ◌∙◌, subst, arith}
 use lib.IntN.{*ℤ-zero}
 use Rattle.std.proofs.lemmas.Int.{ints}
 use Rattle.positions.specs.declared.record.Record.{Record}
 use Rattle.books.specs.Tables.{Tables}
-use Rattle.pairing.specs.Sums.{sum_z, sum_n}
+use Rattle.pairing.specs.Sums.{sum_z}
 use Rattle.pairing.specs.Pairing.{Set, Positions, at, mark, lot, takes, worth, requirement, Fair, floor, used, required, AllAllowed, LawfulPairing, cost, FloorUnderCost}
 use Rattle.pairing.proofs.Sums.{times_sum, times_le, add_le, sum_z_add, sum_z_same, sum_z_le, sum_z_none, sum_z_at, at_one}
 

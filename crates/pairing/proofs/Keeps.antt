@@ -1,15 +1,14 @@
 -- Sound claims stay sound.
-use Rattle.std.proofs.Common.{◌≡◌, ℕ, zero, suc, ◌+◌, ◌-◌, ◌*◌, ◌<◌, ◌≤◌, Bool, true, false, cond, not, ◌&&◌, ◌||◌, eqb, ◌⊎◌, List, [], ◌∷◌, ◌++◌, map, length, get_or, take, drop, set, Ok, Err, Result, sym, refl, ap, ◌∙◌, subst, inl, inr, ⊎_elim, le_of_suc-le-suc, not-suc-le-zero, add-mul, mul-le-mul, mul-zero, add-one, arith}
-use Rattle.std.proofs.lemmas.Bool.Decides.{nat_tests}
+use Rattle.std.proofs.Common.{◌≡◌, ℕ, zero, suc, ◌+◌, ◌-◌, ◌*◌, ◌<◌, ◌≤◌, true, false, cond, not, eqb, List, [], ◌∷◌, ◌++◌, map, length, get_or, take, drop, set, Ok, Result, sym, refl, ap, ◌∙◌, subst, ⊎_elim, le_of_suc-le-suc, not-suc-le-zero, add-mul, mul-le-mul, mul-zero, add-one, arith}
 use Rattle.std.proofs.lemmas.List.{length_push, get_or_append_left}
 use Rattle.std.proofs.lemmas.Bool.{cases_eq, cases_Bool, cases_lt, eq-eqb, ne_eqb, eqb-true, cond-true, cond-false, and_parts, or_parts, or_cases, not-true}
 use Rattle.positions.specs.declared.record.Record.{Record}
 use Rattle.books.specs.declared.BookFault.{BookFault}
 use Rattle.books.specs.Tables.{Tables}
 use Rattle.pairing.specs.declared.Claim.{Claim}
-use Rattle.pairing.specs.Pairing.{no_record, Position, Positions, at, Set, among, distinct, answer, amount, requirement, Allowed, of_leg, lot, takes}
+use Rattle.pairing.specs.Pairing.{no_record, Position, Positions, at, Set, among, distinct, answer, amount, Allowed, of_leg, lot, takes}
 use Rattle.pairing.specs.Claims.{legs_of, set_of, taken, ClaimsAllowed, Sound}
-use Rattle.pairing.specs.Kept.{no_claim, with_sets, Covered, Kept, SoundKept}
+use Rattle.pairing.specs.Kept.{no_claim, with_sets, Covered, SoundKept}
 
 -- ---- what legs take of a position: one lot where it is among them, else nothing
 

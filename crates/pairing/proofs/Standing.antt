@@ -1,11 +1,10 @@
 -- Sound lines are a lawful pairing.
-use Rattle.std.proofs.Common.{◌≡◌, ℕ, zero, suc, ◌+◌, ◌-◌, ◌*◌, ◌<◌, ◌≤◌, List, [], ◌∷◌, ◌++◌, length, replicate, ℤ, pos, ◌≤ℤ◌, sym, refl, ap, ◌∙◌, subst, add_assoc, suc-mul, zero-mul, arith}
+use Rattle.std.proofs.Common.{◌≡◌, ℕ, zero, suc, ◌+◌, ◌-◌, ◌*◌, ◌≤◌, List, [], ◌∷◌, ◌++◌, length, replicate, ℤ, pos, ◌≤ℤ◌, sym, refl, ap, ◌∙◌, subst, suc-mul, arith}
 use Rattle.std.proofs.lemmas.Int.{ints}
 use Rattle.positions.specs.declared.record.Record.{Record}
 use Rattle.books.specs.Tables.{Tables}
 use Rattle.pairing.specs.declared.Claim.{Claim}
-use Rattle.pairing.specs.Sums.{sum_n}
-use Rattle.pairing.specs.Pairing.{Set, Allowed, at, takes, requirement, Fair, floor, used, required, AllAllowed, LawfulPairing, cost}
+use Rattle.pairing.specs.Pairing.{Set, Allowed, at, takes, requirement, Fair, floor, used, required, AllAllowed, cost}
 use Rattle.pairing.specs.Claims.{legs_of, set_of, taken, required_by, ClaimsAllowed, Sound, total, pairing_of, ClaimsPair, Shown}
 use Rattle.pairing.proofs.Sums.{sum_n_same}
 use Rattle.pairing.proofs.Floors.{floor_under_cost}

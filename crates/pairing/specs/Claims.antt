@@ -1,5 +1,5 @@
 -- The claims standing, as a pairing.
-use Rattle.std.specs.Prelude.{◌≡◌, ℕ, zero, suc, ◌+◌, ◌-◌, ◌*◌, ◌≤◌, Bool, true, false, cond, List, [], ◌∷◌, ◌++◌, length, replicate, ℤ, pos, ◌≤ℤ◌, ◌==◌}
+use Rattle.std.specs.Prelude.{◌≡◌, ℕ, ◌+◌, ◌-◌, ◌*◌, ◌≤◌, cond, List, [], ◌∷◌, ◌++◌, length, replicate, ℤ, pos, ◌≤ℤ◌, ◌==◌}
 use Rattle.positions.specs.declared.record.Record.{Record}
 use Rattle.books.specs.Tables.{Tables}
 use Rattle.pairing.specs.declared.Claim.{Claim}

@@ -3,7 +3,7 @@ use Rattle.std.specs.Prelude.{ℕ, cond, List, Some, None, Ok, Err, codes, Optio
 use Rattle.amounts.specs.Ranges.{inside}
 use Rattle.market.specs.declared.SheetFault.{SheetFault}
 use Rattle.market.specs.Share.{sheet_of}
-use Rattle.market.specs.Currency.{Currency, currency_of}
+use Rattle.market.specs.Currency.{currency_of}
 use Rattle.dockets.specs.declared.Refusal.TheVariants.{SizeOutOfRange}
 use Rattle.text.specs.Fields.{Got, and_then}
 use Rattle.text.specs.Numbers.{natural, number_or_none, yes_or_no, same}

@@ -6,7 +6,7 @@ use Rattle.dockets.specs.Tally.{Tally, empty}
 use Rattle.runs.specs.declared.Call.{Call}
 use Rattle.runs.specs.declared.Reply.{Reply}
 use Rattle.runs.specs.Runs.{reply_to, after, ran, replies}
-use Rattle.runs.specs.Laws.{Holds, Led, Onward, served, Ran}
+use Rattle.runs.specs.Laws.{Holds, Onward, served, Ran}
 use Rattle.runs.proofs.Holding.{runs_hold}
 
 pub ran_push : (t : Tables) (s : ℕ) (y : Tally) (cs : List Call) (k : Call) → ran t s y (cs ++ (k ∷ [])) ≡ after t s (ran t s y cs) k

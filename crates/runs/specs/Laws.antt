@@ -3,7 +3,6 @@ use Rattle.std.specs.Prelude.{◌≡◌, ℕ, ◌+◌, min, List, ◌++◌, leng
 use Rattle.books.specs.Tables.{Tables, Lawful}
 use Rattle.pairing.specs.Pairing.{Position, at, LawfulPairing, cost}
 use Rattle.pairing.specs.Claims.{taken, total, pairing_of}
-use Rattle.certificate.specs.Totals.{free}
 use Rattle.certificate.specs.Certified.{certify_reply, Certified}
 use Rattle.dockets.specs.Tally.{Tally, empty}
 use Rattle.dockets.specs.Calls.{free_reply, total_reply}

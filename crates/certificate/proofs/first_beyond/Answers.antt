@@ -1,4 +1,4 @@
-use Rattle.std.proofs.Common.{◌≡◌, length, sym, ◌∙◌}
+use Rattle.std.proofs.Common.{length, sym, ◌∙◌}
 use Rattle.breaches.proofs.Firsts.{hit, miss}
 use Rattle.certificate.specs.Certified.{beyond_at}
 use Rattle.certificate.proofs.first_beyond.Goals as goal

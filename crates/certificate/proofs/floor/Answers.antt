@@ -1,4 +1,4 @@
-use Rattle.std.proofs.Common.{◌≡◌, ℕ, length, ℤ, pos, ◌*ℤ◌, ap, arith}
+use Rattle.std.proofs.Common.{◌≡◌, ℕ, length, pos, ◌*ℤ◌, ap, arith}
 use Rattle.std.proofs.lemmas.Int.{ints}
 use Rattle.pairing.specs.Sums.{sum_z}
 use Rattle.pairing.specs.Pairing.{at, mark}

@@ -1,4 +1,4 @@
-use Rattle.std.proofs.Common.{◌≡◌, ◌*◌, ◌^◌, ◌≤◌, mul-le-mul, arith}
+use Rattle.std.proofs.Common.{◌*◌, ◌^◌, ◌≤◌, mul-le-mul, arith}
 use Rattle.certificate.proofs.free_amount.Goals as goal
 
 pub returns : goal.returns

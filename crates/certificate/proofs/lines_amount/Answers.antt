@@ -1,4 +1,4 @@
-use Rattle.std.proofs.Common.{◌*◌, List, refl, arith}
+use Rattle.std.proofs.Common.{◌*◌, refl, arith}
 use Rattle.std.proofs.lemmas.List.{at_drop_all}
 use Rattle.pairing.specs.declared.Claim.{Claim}
 use Rattle.certificate.specs.Totals.{line_amount, lines_amount}

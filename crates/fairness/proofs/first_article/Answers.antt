@@ -1,4 +1,4 @@
-use Rattle.std.proofs.Common.{◌≡◌, sym, ◌∙◌, arith}
+use Rattle.std.proofs.Common.{sym, ◌∙◌, arith}
 use Rattle.breaches.specs.Search.{first_leg}
 use Rattle.breaches.proofs.Firsts.{hit, miss}
 use Rattle.fairness.proofs.first_article.Goals as goal

@@ -1,4 +1,4 @@
-use Rattle.std.proofs.Common.{◌≡◌, length, sym, ◌∙◌, arith}
+use Rattle.std.proofs.Common.{length, sym, ◌∙◌, arith}
 use Rattle.breaches.specs.Search.{third_leg}
 use Rattle.breaches.proofs.Firsts.{hit, miss}
 use Rattle.fairness.proofs.second_leg.Goals as goal

@@ -1,4 +1,4 @@
-use Rattle.std.proofs.Common.{◌≡◌, length, sym, ◌∙◌, arith}
+use Rattle.std.proofs.Common.{length, sym, ◌∙◌, arith}
 use Rattle.breaches.specs.Search.{three_breach}
 use Rattle.breaches.proofs.Firsts.{hit, miss}
 use Rattle.fairness.proofs.third_of_three.Goals as goal

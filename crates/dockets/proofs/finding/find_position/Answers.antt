@@ -1,5 +1,4 @@
 use Rattle.std.proofs.Common.{sym, ap, ◌∙◌, arith}
-use Rattle.positions.specs.declared.record.Record.{Record}
 use Rattle.dockets.specs.Finding.{like_position}
 use Rattle.dockets.proofs.Places.{hit, miss, ended}
 use Rattle.dockets.proofs.finding.find_position.Goals as goal

@@ -1,4 +1,4 @@
-use Rattle.std.proofs.Common.{◌≤◌, ◌∙◌, arith, rules}
+use Rattle.std.proofs.Common.{◌∙◌, arith, rules}
 use Rattle.books.specs.Tables.{Has}
 use Rattle.dockets.proofs.docket.Docket.judge.Goals as goal
 
