@@ -1,5 +1,6 @@
--- Products and differences of whole numbers.
-use Rattle.std.proofs.Common.{◌≡◌, ℕ, suc, ◌-◌, ◌*◌, ◌≤◌, pos, negsuc, ◌-ℤ◌, ◌*ℤ◌, neg_ℤ, nat_abs, ap, ◌∙◌, ⊎_elim, mul-le-mul_left, arith}
+-- A lemma: a product with a difference, on which the limits of a book rest.
+-- It stands here, and not in `proofs/`, since a ghost member of an implementation may cite nothing outside `specs/`; no contract speaks of it.
+use Rattle.std.proofs.Common.{◌≡◌, ℕ, suc, ◌-◌, ◌*◌, pos, negsuc, ◌-ℤ◌, ◌*ℤ◌, neg_ℤ, ap, ◌∙◌, ⊎_elim, mul-le-mul_left, arith}
 use native.Mathlib.Nat.{mul-sub}
 use Rattle.std.proofs.lemmas.Int.{ints}
 use Rattle.std.proofs.lemmas.Bool.{cases_lt}
@@ -16,11 +17,3 @@ times_difference s x y =
     let e : pos x -ℤ pos y ≡ pos (x - y) = omega (arith, ints) in
     ap (λ z. pos s *ℤ z) e ∙ omega (arith, ints, mul-sub s x y, mul-le-mul_left {m = y} {n = x} s (omega arith)))
     (cases_lt x y)
-
--- a difference is no greater than its terms' bound
-pub difference_bound : (a b k : ℕ) → a ≤ k → b ≤ k → nat_abs (pos a -ℤ pos b) ≤ k
-difference_bound a b k h i =
-    ⊎_elim
-    (λ lt. let e : pos a -ℤ pos b ≡ negsuc (b - a - 1) = omega (arith, ints) in omega (arith, ap nat_abs e))
-    (λ le. let e : pos a -ℤ pos b ≡ pos (a - b) = omega (arith, ints) in omega (arith, ap nat_abs e))
-    (cases_lt a b)

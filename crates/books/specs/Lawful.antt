@@ -1,4 +1,5 @@
--- A book over a market that keeps its limits is lawful.
+-- Lemmas: a book over a market that keeps its limits is lawful, and so are the books of the two sheets.
+-- They stand here, and not in `proofs/`, since a ghost member of an implementation may cite nothing outside `specs/`; no contract speaks of them.
 use Rattle.std.specs.Prelude.{◌≡◌, ℕ, ◌*◌, ◌≤◌, List, [], ◌∷◌, map, Some, None, Ok, Err, Option, Result}
 use Rattle.std.proofs.Common.{ap, arith}
 use Rattle.std.specs.Result.{result_map_both}

@@ -1,4 +1,5 @@
--- The two sheets keep the limits of a market.
+-- Lemmas: the two sheets keep the limits of a market.
+-- They stand here, and not in `proofs/`, since a ghost member of an implementation may cite nothing outside `specs/`; no contract speaks of them.
 use Rattle.std.proofs.Common.{rules, arith, mul_comm, mul-le-mul_left}
 use Rattle.std.specs.Prelude.{◌+◌}
 use Rattle.std.proofs.lemmas.Nat.{mul-le}

@@ -1,4 +1,5 @@
--- What the numbers of a record in range are at most.
+-- Lemmas: what the numbers of a record in range are at most, on which the limits of a book rest.
+-- They stand here, and not in `proofs/`, since a ghost member of an implementation may cite nothing outside `specs/`; no contract speaks of them.
 use Rattle.std.specs.Prelude.{◌≡◌, ℕ, ◌≤◌, true, ◌&&◌, nat_le}
 use Rattle.std.proofs.Common.{arith}
 use Rattle.std.proofs.lemmas.Bool.{and_parts, leb-true}

@@ -1,6 +1,7 @@
 use Rattle.std.proofs.Common.{◌≡◌, ◌≤◌, pos, ◌-ℤ◌, nat_abs, sym, ◌∙◌, subst, arith, w64, to_z, of_z}
 use Rattle.std.proofs.lemmas.Int.{ints}
-use Rattle.amounts.specs.Differences.{times_difference, difference_bound}
+use Rattle.amounts.specs.Differences.{times_difference}
+use Rattle.amounts.proofs.Differences.{difference_bound}
 use Rattle.amounts.proofs.products.size_times_difference.Goals as goal
 
 pub returns : goal.returns
