@@ -1,24 +1,15 @@
 -- Sets, fair marks, lawful pairings and their cost, over a book's tables, a contract size and the positions held.
 -- A position is told by its number, from 1 in order of entry; its record's quantity is the units (or contracts) entered of it.
-use Rattle.std.specs.Prelude.{◌≡◌, ℕ, ◌+◌, ◌-◌, ◌*◌, ◌≤◌, Bool, true, false, cond, not, ◌&&◌, ◌||◌, List, [], ◌∷◌, map, length, ℤ, pos, ◌+ℤ◌, ◌*ℤ◌, neg_ℤ, ◌≤ℤ◌, Ok, Err, Result, ◌==◌, slice_index_or, refl}
+use Rattle.std.specs.Prelude.{◌≡◌, ℕ, ◌+◌, ◌-◌, ◌*◌, ◌≤◌, Bool, true, false, cond, not, ◌&&◌, ◌||◌, List, [], ◌∷◌, map, length, ℤ, pos, ◌+ℤ◌, ◌*ℤ◌, neg_ℤ, ◌≤ℤ◌, Ok, Err, Result, ◌==◌, slice_index_or}
 use Rattle.positions.specs.declared.record.Record.{Record}
 use Rattle.books.specs.declared.BookFault.{BookFault}
 use Rattle.positions.specs.declared.Kind.{Kind}
-use Rattle.positions.specs.declared.Side.TheVariants.{Long}
 use Rattle.positions.specs.declared.Kind.TheVariants.{Units, Call, Put, Futures, Receipt}
-use Rattle.positions.specs.Ranges.{in_range}
+pub use Rattle.positions.specs.Records.{in_range_lem, no_record}
 use Rattle.books.specs.Tables.{Tables, Has}
 use Rattle.pairing.specs.Sums.{sum_z, sum_n}
 
--- positions
-
--- what is read where there is no position
-pub in_range_lem : in_range Long Units 0 0 0 ≡ true
-unfolding in_range
-in_range_lem = refl
-
-abbrev pub no_record : Record
-no_record = record { side = Long; kind = Units; strike = 0; days = 0; price = 0; quantity = 0; ranged = in_range_lem }
+-- positions; no_record is what is read where there is none
 
 -- a number that a position has
 abbrev pub Position : List Record → ℕ → Type 0

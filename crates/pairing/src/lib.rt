@@ -10,7 +10,7 @@ use amounts::ContractSize;
 use positions::Kind;
 
 // A claim: an article, its legs by the numbers of their positions, the third 0 where the article has two, and a number of sets.
-#[derive(Clone, Copy)]
+#[derive(Clone, Copy, Default)]
 pub struct Claim {
     pub article: u64,
     pub first: u64,

@@ -2,6 +2,8 @@
 use Rattle.std.specs.Prelude.{◌≡◌, ℕ, Bool, true, false, cond, Some, None, Ok, Err, Option, Result, refl}
 use Rattle.positions.specs.declared.Side.{Side}
 use Rattle.positions.specs.declared.Kind.{Kind}
+use Rattle.positions.specs.declared.Side.TheVariants.{Long}
+use Rattle.positions.specs.declared.Kind.TheVariants.{Units}
 use Rattle.positions.specs.declared.Field.TheVariants as field
 use Rattle.positions.specs.declared.Entry.{Entry}
 use Rattle.positions.specs.declared.RecordFault.{RecordFault}
@@ -9,6 +11,14 @@ use Rattle.positions.specs.declared.RecordFault.TheVariants.{OutOfRange}
 use Rattle.positions.specs.declared.record.Record.{Record}
 use Rattle.positions.specs.Letters.{side_of, kind_for}
 use Rattle.positions.specs.Ranges.{holds, strike_range, day_range, price_range, quantity_range, in_range}
+
+-- what is read where there is no position
+pub in_range_lem : in_range Long Units 0 0 0 ≡ true
+unfolding in_range
+in_range_lem = refl
+
+abbrev pub no_record : Record
+no_record = record { side = Long; kind = Units; strike = 0; days = 0; price = 0; quantity = 0; ranged = in_range_lem }
 
 -- what is held, whatever the quantity
 pub record Terms : Type 0 where

@@ -1,6 +1,6 @@
 ghost use Rattle.std.specs.Prelude.{◌≡◌, ◌≤◌, OnOk};
 ghost use Rattle.positions.specs.Ranges.{quantity_range, checked};
-ghost use Rattle.positions.specs.Records.{judged, record_of};
+ghost use Rattle.positions.specs.Records.{judged, record_of, no_record};
 ghost use Rattle.positions.specs.Ranges.{Judged};
 ghost use Rattle.positions.specs.Letters.{kind_for};
 
@@ -52,6 +52,22 @@ fn judge(size: ContractSize, entry: &Entry, kind: Kind) -> Result<(), RecordFaul
     check(Field::Days, day_range(kind), entry.days)?;
     check(Field::Price, price_range(kind), entry.price)?;
     check(Field::Quantity, quantity_range(size, kind), entry.quantity)
+}
+
+// What is read where there is no position.
+impl Default for Record {
+    ghost is_default = { λ r. r ≡ no_record };
+
+    fn default() -> Record {
+        Record {
+            side: Side::Long,
+            kind: Kind::Units,
+            strike: 0,
+            days: 0,
+            price: 0,
+            quantity: 0,
+        }
+    }
 }
 
 impl Record {
