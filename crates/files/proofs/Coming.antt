@@ -12,7 +12,8 @@ use Rattle.positions.specs.declared.record.Record.{Record}
 use Rattle.books.specs.Tables.{Tables}
 use Rattle.pairing.specs.declared.Claim.{Claim}
 use Rattle.dockets.specs.Tally.{Tally}
-use Rattle.replays.specs.Entries.{side_letter, kind_letter, entry_of}
+use Rattle.positions.specs.Letters.{side_letter, kind_letter}
+use Rattle.replays.specs.Entries.{entry_of}
 use Rattle.replays.specs.Replay.{holding, EntersAgain, ClaimsAgain, Replayed}
 use Rattle.reading.specs.Body.{Body, no_body, line_taken, then_others, body_from}
 use Rattle.reading.proofs.Takes.{mark_kept, by_position, by_claim, by_mark}

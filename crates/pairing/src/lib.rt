@@ -6,6 +6,8 @@ ghost use Rattle.pairing.specs.Pairing.{of_leg, FloorUnderCost};
 ghost use Rattle.pairing.specs.Claims.{ClaimsPair};
 ghost use Rattle.pairing.specs.Kept.{SoundKept};
 
+mod text;
+
 use amounts::ContractSize;
 use positions::Kind;
 

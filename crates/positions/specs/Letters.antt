@@ -31,3 +31,16 @@ on_side side (Some kind) = cond (sided side kind) (Some kind) None
 -- the kind that a letter stands for on a side; a short receipt is wrong in its kind
 abbrev pub kind_for : Side → ℕ → Option Kind
 kind_for side c = on_side side (kind_of c)
+
+-- L, S
+abbrev pub side_letter : Side → ℕ
+side_letter Long = 76
+side_letter Short = 83
+
+-- U, C, P, F, R
+abbrev pub kind_letter : Kind → ℕ
+kind_letter Units = 85
+kind_letter Call = 67
+kind_letter Put = 80
+kind_letter Futures = 70
+kind_letter Receipt = 82

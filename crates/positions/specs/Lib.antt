@@ -4,3 +4,4 @@ pub mod Ranges
 pub mod Refusals
 pub mod Records
 pub mod Bounds
+pub mod Texts

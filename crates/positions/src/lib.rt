@@ -9,6 +9,8 @@ ghost use Rattle.positions.specs.Refusals.{field_number, refusal_number, refusal
 
 mod checks;
 mod record;
+mod sent;
+mod text;
 
 pub use checks::quantity_range;
 pub use record::Record;

@@ -2,7 +2,8 @@
 #![tactic(auto)]
 
 ghost use Rattle.std.specs.Prelude.{◌≡◌, ◌<◌};
-ghost use Rattle.replays.specs.Entries.{side_letter, kind_letter, entry_of};
+ghost use Rattle.positions.specs.Letters.{side_letter, kind_letter};
+ghost use Rattle.replays.specs.Entries.{entry_of};
 ghost use Rattle.replays.specs.Replay.{Replay};
 
 use positions::{Entry, Kind, Record, Side};

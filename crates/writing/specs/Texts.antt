@@ -1,11 +1,15 @@
 -- The text of a file, line by line.
-use Rattle.std.specs.Prelude.{ℕ, Bool, true, false, List, [], ◌∷◌, ◌++◌, map, ℤ, Some, None, codes, decimal, Option}
+use Rattle.std.specs.Prelude.{◌≡◌, ℕ, Bool, true, false, List, [], ◌∷◌, ◌++◌, map, ℤ, Some, None, codes, decimal, Option}
 use Rattle.std.specs.List.{flat_map, join_with_byte}
 use Rattle.std.specs.Fmt.{signed_decimal}
 use Rattle.positions.specs.declared.record.Record.{Record}
+use Rattle.positions.specs.Texts.{record_text}
+use Rattle.books.specs.declared.sheets.Sheet.{Sheet}
 use Rattle.pairing.specs.declared.Claim.{Claim}
-use Rattle.replays.specs.Entries.{side_letter, kind_letter}
-use Rattle.reader.specs.Rates.{Rates, share, currency}
+use Rattle.pairing.specs.Texts.{claim_text}
+use Rattle.dockets.specs.declared.docket.Docket.{Docket}
+use Rattle.dockets.specs.Dockets.{tally_in}
+use Rattle.reader.specs.Rates.{Rates, share, currency, rates_on}
 use Rattle.reading.specs.Files.{Content}
 
 -- a line: its key, and its fields with commas (44) between them
@@ -44,17 +48,15 @@ size_line size = line (codes "size=") (decimal size ∷ [])
 
 -- the line of a position
 abbrev pub position_line : Record → List ℕ
-position_line r =
-    line (codes "pos=")
-    ((side_letter r.side ∷ []) ∷ (kind_letter r.kind ∷ []) ∷ decimal r.strike ∷ decimal r.days ∷ decimal r.price ∷ decimal r.quantity ∷ [])
+position_line r = codes "pos=" ++ record_text r
 
 -- the line of a claim
 abbrev pub claim_line : Claim → List ℕ
-claim_line c = line (codes "claim=") (decimal c.article ∷ decimal c.first ∷ decimal c.second ∷ decimal c.third ∷ decimal c.sets ∷ [])
+claim_line c = codes "claim=" ++ claim_text c
 
 -- the line of a mark
 abbrev pub mark_line : ℤ → List ℕ
-mark_line mark = line (codes "mark=") (signed_decimal mark ∷ [])
+mark_line mark = codes "mark=" ++ signed_decimal mark
 
 -- all lines, in their order
 abbrev pub file_lines : Content → List (List ℕ)
@@ -67,3 +69,16 @@ ended l = l ++ (10 ∷ [])
 -- the text of a docket and its marks
 abbrev pub file_text : Content → List ℕ
 file_text c = flat_map ended (file_lines c)
+
+-- a docket and marks, as a file describes them
+abbrev pub described : Docket Sheet → List ℤ → Content
+described d marks = record { size = d.state.size.units; rates = rates_on d.book; tally = tally_in d.state; marks = marks }
+
+-- each value prints as its text
+abbrev pub PrintsAs : {A : Type 0} → (A → Option (List ℕ)) → (A → List ℕ) → Type 0
+PrintsAs output text = (x : _) → output x ≡ Some (text x)
+
+-- the text of a value that may be none
+abbrev pub text_or_none : {A : Type 0} → (A → Option (List ℕ)) → Option A → Option (List ℕ)
+text_or_none output (Some x) = output x
+text_or_none output None = Some (codes "none")

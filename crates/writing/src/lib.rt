@@ -1,19 +1,19 @@
 // A docket and its marks, written as the file that describes them.
 #![tactic(auto)]
 
-ghost use Rattle.std.specs.Prelude.{◌≡◌, min, length, take, IfOk, string_bytes};
-ghost use Rattle.dockets.specs.Dockets.{tally_in};
-ghost use Rattle.reader.specs.Rates.{rates_on};
-ghost use Rattle.writing.specs.Texts.{file_text};
+ghost use Rattle.std.specs.Prelude.{◌≡◌, take, IfOk, string_bytes};
+ghost use Rattle.writing.specs.Texts.{described, file_text};
 ghost use Rattle.writing.specs.Writing.{Written, write_number, write_details};
 ghost use Rattle.writing.specs.declared.WriteFault.TheVariants.{Memory};
 
 mod lines;
+mod or_none;
 mod sheet;
 
 use books::Sheet;
 use dockets::{Details, Docket};
 use lines::lines;
+pub use or_none::OrNone;
 use sheet::sheet_lines;
 use std::alloc::{AllocError, Global};
 
@@ -62,22 +62,15 @@ impl WriteFault {
     }
 }
 
-// How many marks are written: at most 32.
-fn marks_written(marks: &[i64]) -> usize
-    ensures { result ≡ min 32 (length marks.now) }
-{
-    marks.len().min(32)
-}
-
-// The text of the file.
+// The text of the file, with at most 32 marks.
 pub fn text(heap: Global, docket: &Docket<Sheet>, marks: &[i64]) -> Result<String, AllocError>
-    ensures { IfOk result (λ t. string_bytes t ≡ file_text (record { size = docket.now.state.size.units; rates = rates_on docket.now.book; tally = tally_in docket.now.state; marks = take 32 marks.now })) }
+    ensures { IfOk result (λ t. string_bytes t ≡ file_text (described docket.now (take 32 marks.now))) }
 {
     let size = docket.size().units;
     let rates = sheet_lines(heap, docket.book())?;
-    let positions = lines(heap, docket.positions())?;
-    let claims = lines(heap, docket.claims())?;
-    let marks = lines(heap, &marks[..marks_written(marks)])?;
+    let positions = lines(heap, "pos=", docket.positions())?;
+    let claims = lines(heap, "claim=", docket.claims())?;
+    let marks = lines(heap, "mark=", &marks[..marks.len().min(32)])?;
     format!(in heap; "size={size}\n{rates}{positions}{claims}{marks}")
 }
 
@@ -86,6 +79,7 @@ fn copy_into(text: &[u8], buf: &mut [u8]) -> Result<usize, WriteFault>
     ensures { Written text.now buf.old result buf.new }
 {
     let needed = text.len();
+    // By its length: the contract of get_mut does not say what the buffer is left as.
     if needed > buf.len() {
         return Err(WriteFault::Short(needed));
     }
@@ -100,7 +94,7 @@ pub fn write(
     marks: &[i64],
     buf: &mut [u8],
 ) -> Result<usize, WriteFault>
-    ensures { Written (file_text (record { size = docket.now.state.size.units; rates = rates_on docket.now.book; tally = tally_in docket.now.state; marks = take 32 marks.now })) buf.old result buf.new }
+    ensures { Written (file_text (described docket.now (take 32 marks.now))) buf.old result buf.new }
 {
     let text = text(heap, docket, marks)?;
     copy_into(text.as_bytes(), buf)

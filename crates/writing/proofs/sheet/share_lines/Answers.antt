@@ -1,10 +1,12 @@
-use Rattle.std.proofs.Common.{◌∙◌}
+use Rattle.std.proofs.Common.{rules}
 use Rattle.std.proofs.lemmas.Result.{IfOk-weaker}
 use Rattle.market.specs.Share.{shares_on}
-use Rattle.writing.proofs.Forms.{share_text}
+use Rattle.writing.proofs.Forms.{printed_rate, share_printed}
 use Rattle.writing.proofs.sheet.share_lines.Goals as goal
 
 pub returns : goal.returns
 returns c =
-    let h = c.yes_or_no-reduced.ensures in
-    IfOk-weaker c.format.result _ _ (λ t e. e ∙ (rw h (share_text (shares_on c.args.sheet.now)))) c.format.ensures.ok
+    let sheet = c.args.sheet.now in
+    let futures = printed_rate sheet.futures c.map.result (λ r n e. search rules) c.map.ensures.cases in
+    let tracking = printed_rate sheet.tracking c.map-2.result (λ r n e. search rules) c.map-2.ensures.cases in
+    IfOk-weaker c.format.result _ _ (λ t e. share_printed (shares_on sheet) c.yes_or_no.ensures futures tracking e) c.format.ensures.ok
