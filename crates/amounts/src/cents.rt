@@ -3,7 +3,7 @@ ghost use Rattle.std.specs.Option.{option_map};
 ghost use Rattle.amounts.specs.Ranges.{within};
 
 // Whole cents a unit: a price, a strike, a premium or a settlement, to 500,000.
-#[derive(Clone, Copy)]
+#[derive(Clone, Copy, Debug, PartialEq, Eq, PartialOrd, Ord)]
 pub struct Cents {
     pub amount: u32,
     ghost high: { amount ≤ 500000 },
@@ -14,11 +14,8 @@ impl Cents {
     pub fn new(amount: u64) -> Option<Cents>
         ensures { option_map (λ (c : Cents). c.amount) result ≡ within 0 500000 amount }
     {
-        if amount > 500_000 {
-            return None;
-        }
         Some(Cents {
-            amount: amount as u32,
+            amount: crate::within(0, 500_000, amount)? as u32,
         })
     }
 }

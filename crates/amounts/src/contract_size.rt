@@ -3,7 +3,7 @@ ghost use Rattle.std.specs.Option.{option_map};
 ghost use Rattle.amounts.specs.Ranges.{within};
 
 // The units of the underlying in one contract, from 1 to 1,000.
-#[derive(Clone, Copy)]
+#[derive(Clone, Copy, Debug, PartialEq, Eq, PartialOrd, Ord)]
 pub struct ContractSize {
     pub units: u16,
     ghost low: { 1 ≤ units },
@@ -15,11 +15,8 @@ impl ContractSize {
     pub fn new(units: u64) -> Option<ContractSize>
         ensures { option_map (λ (c : ContractSize). c.units) result ≡ within 1 1000 units }
     {
-        if units < 1 || units > 1_000 {
-            return None;
-        }
         Some(ContractSize {
-            units: units as u16,
+            units: crate::within(1, 1_000, units)? as u16,
         })
     }
 }

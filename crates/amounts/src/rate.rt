@@ -3,7 +3,7 @@ ghost use Rattle.std.specs.Option.{option_map};
 ghost use Rattle.amounts.specs.Ranges.{within};
 
 // A rate in basis points, from 0 to 10,000, which is 100%.
-#[derive(Clone, Copy)]
+#[derive(Clone, Copy, Debug, PartialEq, Eq, PartialOrd, Ord)]
 pub struct Rate {
     pub basis_points: u16,
     ghost high: { basis_points ≤ 10000 },
@@ -14,11 +14,8 @@ impl Rate {
     pub fn new(basis_points: u64) -> Option<Rate>
         ensures { option_map (λ (c : Rate). c.basis_points) result ≡ within 0 10000 basis_points }
     {
-        if basis_points > 10_000 {
-            return None;
-        }
         Some(Rate {
-            basis_points: basis_points as u16,
+            basis_points: crate::within(0, 10_000, basis_points)? as u16,
         })
     }
 }
