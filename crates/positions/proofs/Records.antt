@@ -1,5 +1,5 @@
 -- What passes every check is the record.
-use Rattle.std.proofs.Common.{◌≡◌, ℕ, Bool, true, false, Some, Ok, Err, sym, refl, ap, ◌∙◌, arith}
+use Rattle.std.proofs.Common.{◌≡◌, ℕ, Bool, true, false, Some, None, Ok, Err, Option, ok_or, sym, refl, ap, ◌∙◌, arith}
 use mathlib.Core.Bool.{Bool-set}
 use Rattle.positions.specs.declared.Side.{Side}
 use Rattle.positions.specs.declared.Kind.{Kind}
@@ -9,6 +9,11 @@ use Rattle.positions.specs.declared.RecordFault.TheVariants.{OutOfRange}
 use Rattle.positions.specs.Letters.{side_of, kind_for}
 use Rattle.positions.specs.Ranges.{in_range}
 use Rattle.positions.specs.Records.{decide, judged, ranged, kinds_of, sides_of, record_of}
+
+-- what is made of an option is what it holds
+pub made_of : {A E : Type 0} (o : Option A) (fault : E) (x : A) → Ok x ≡ ok_or o fault → Some x ≡ o
+made_of (Some y) fault x e = cc
+made_of None fault x e = let z : ◌≡◌ {A = ℕ} 0 1 = cc in absurd (omega arith)
 
 pub decided : {A : Type 0} (b : Bool) (make : b ≡ true → A) (other : A) (ok : b ≡ true) → decide b make other ≡ make ok
 decided true make other ok = ap make (Bool-set true true refl ok)

@@ -15,6 +15,19 @@ kind_of c =
     cond (c == 85) (Some Units)
     (cond (c == 67) (Some Call) (cond (c == 80) (Some Put) (cond (c == 70) (Some Futures) (cond (c == 82) (Some Receipt) None))))
 
+-- and the letter of each side
+abbrev pub side_letter : Side → ℕ
+side_letter Long = 76
+side_letter Short = 83
+
+-- and of each kind
+abbrev pub kind_letter : Kind → ℕ
+kind_letter Units = 85
+kind_letter Call = 67
+kind_letter Put = 80
+kind_letter Futures = 70
+kind_letter Receipt = 82
+
 -- an escrow receipt is held, never owed
 abbrev pub sided : Side → Kind → Bool
 sided Long kind = true
@@ -31,16 +44,3 @@ on_side side (Some kind) = cond (sided side kind) (Some kind) None
 -- the kind that a letter stands for on a side; a short receipt is wrong in its kind
 abbrev pub kind_for : Side → ℕ → Option Kind
 kind_for side c = on_side side (kind_of c)
-
--- L, S
-abbrev pub side_letter : Side → ℕ
-side_letter Long = 76
-side_letter Short = 83
-
--- U, C, P, F, R
-abbrev pub kind_letter : Kind → ℕ
-kind_letter Units = 85
-kind_letter Call = 67
-kind_letter Put = 80
-kind_letter Futures = 70
-kind_letter Receipt = 82

@@ -1,5 +1,5 @@
--- The numbers of fields, and of the refusal that names one.
-use Rattle.std.specs.Prelude.{ℕ}
+-- The numbers of fields, and the refusal that names one.
+use Rattle.std.specs.Prelude.{ℕ, List, ◌++◌, codes, decimal}
 use Rattle.positions.specs.declared.Field.{Field}
 use Rattle.positions.specs.declared.Field.TheVariants.{Side, Kind, Strike, Days, Price, Quantity}
 use Rattle.positions.specs.declared.RecordFault.{RecordFault}
@@ -21,3 +21,7 @@ refusal_number (OutOfRange field) = 2
 -- and its number is returned
 abbrev pub refusal_detail : RecordFault → ℕ
 refusal_detail (OutOfRange field) = field_number field
+
+-- the refusal as text: its number and the field's
+abbrev pub refusal_text : RecordFault → List ℕ
+refusal_text f = codes "refused=" ++ (decimal (refusal_number f) ++ (codes "," ++ decimal (refusal_detail f)))

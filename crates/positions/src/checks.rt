@@ -1,13 +1,12 @@
-ghost use Rattle.std.specs.Prelude.{◌≡◌, ◌≤◌, OnOk};
-ghost use Rattle.positions.specs.Ranges.{quantity_range, checked};
+ghost use Rattle.std.specs.Prelude.{◌≡◌, ◌≤◌, OnOk, ok_or};
+ghost use Rattle.positions.specs.Ranges.{quantity_range, holds, checked};
 ghost use Rattle.positions.specs.Records.{judged, record_of, no_record};
 ghost use Rattle.positions.specs.Ranges.{Judged};
 ghost use Rattle.positions.specs.Letters.{kind_for};
 
 use crate::record::Record;
 use crate::{
-    Entry, Field, Kind, Range, RecordFault, Side, day_range, from_to, kind_of, price_range,
-    side_of, strike_range,
+    Entry, Field, Kind, Range, RecordFault, Side, day_range, from_to, price_range, strike_range,
 };
 use amounts::{Cents, ContractSize};
 
@@ -24,12 +23,21 @@ pub fn quantity_range(size: ContractSize, kind: Kind) -> Range
 }
 
 // The kind that a letter stands for on a side: a receipt is never short.
-fn kind_for(side: Side, letter: char) -> Option<Kind>
-    ensures { result ≡ kind_for side letter }
+fn kind_for(side: Side, letter: char) -> Result<Kind, RecordFault>
+    ensures { result ≡ ok_or (kind_for side letter) (RecordFault.OutOfRange Field.Kind) }
 {
-    match (side, kind_of(letter)) {
-        (Side::Short, Some(Kind::Receipt)) => None,
-        (_, kind) => kind,
+    match (side, Kind::try_from(letter)?) {
+        (Side::Short, Kind::Receipt) => Err(RecordFault::OutOfRange(Field::Kind)),
+        (_, kind) => Ok(kind),
+    }
+}
+
+impl Range {
+    // Whether the number lies in the range.
+    fn contains(self, n: u64) -> bool
+        ensures { result ≡ holds self n }
+    {
+        (self.low..=self.high).contains(&n)
     }
 }
 
@@ -37,7 +45,7 @@ fn kind_for(side: Side, letter: char) -> Option<Kind>
 fn check(field: Field, range: Range, value: u64) -> Result<(), RecordFault>
     ensures { result ≡ checked field range value }
 {
-    if value < range.low || value > range.high {
+    if !range.contains(value) {
         return Err(RecordFault::OutOfRange(field));
     }
     Ok(())
@@ -75,12 +83,8 @@ impl Record {
     pub fn new(size: ContractSize, entry: &Entry) -> Result<Record, RecordFault>
         ensures { result ≡ record_of size.units entry.now }
     {
-        let Some(side) = side_of(entry.side) else {
-            return Err(RecordFault::OutOfRange(Field::Side));
-        };
-        let Some(kind) = kind_for(side, entry.kind) else {
-            return Err(RecordFault::OutOfRange(Field::Kind));
-        };
+        let side = Side::try_from(entry.side)?;
+        let kind = kind_for(side, entry.kind)?;
         judge(size, entry, kind)?;
         Ok(Record {
             side,

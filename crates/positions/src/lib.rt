@@ -1,29 +1,31 @@
 // A position as it is entered: six fields, each with its range for its kind.
 #![tactic(auto)]
 
-ghost use Rattle.std.specs.Prelude.{◌≡◌, ◌≤◌};
+ghost use Rattle.std.specs.Prelude.{◌≡◌, ◌≤◌, Some};
 ghost use Rattle.positions.specs.Kinds.{other_side};
-ghost use Rattle.positions.specs.Letters.{side_of, kind_of};
 ghost use Rattle.positions.specs.Ranges.{from_to, strike_range, day_range, price_range, quantity_range};
-ghost use Rattle.positions.specs.Refusals.{field_number, refusal_number, refusal_detail};
+ghost use Rattle.positions.specs.Refusals.{field_number, refusal_number, refusal_detail, refusal_text};
 
 mod checks;
+mod letters;
 mod record;
 mod sent;
 mod text;
 
 pub use checks::quantity_range;
 pub use record::Record;
+use std::error::Error;
+use std::fmt;
 
 // Whether the client owns or owes.
-#[derive(Clone, Copy, PartialEq)]
+#[derive(Clone, Copy, Debug, PartialEq, Eq)]
 pub enum Side {
     Long,
     Short,
 }
 
 // What is held: units of the underlying, an option on it, futures, or an escrow receipt for it.
-#[derive(Clone, Copy, PartialEq)]
+#[derive(Clone, Copy, Debug, PartialEq, Eq)]
 pub enum Kind {
     Units,
     Call,
@@ -32,10 +34,10 @@ pub enum Kind {
     Receipt,
 }
 
-// A field of a record.
-#[derive(Clone, Copy)]
+// A field of a record, by its number there.
+#[derive(Clone, Copy, Debug, PartialEq, Eq)]
 pub enum Field {
-    Side,
+    Side = 1,
     Kind,
     Strike,
     Days,
@@ -44,13 +46,13 @@ pub enum Field {
 }
 
 // Why no record is made.
-#[derive(Clone, Copy)]
+#[derive(Clone, Copy, Debug, PartialEq, Eq)]
 pub enum RecordFault {
     OutOfRange(Field),
 }
 
 // A record as it is sent, with nothing checked.
-#[derive(Clone, Copy)]
+#[derive(Clone, Copy, Debug, PartialEq, Eq)]
 pub struct Entry {
     pub side: char,
     pub kind: char,
@@ -61,7 +63,8 @@ pub struct Entry {
 }
 
 // The lowest and the highest number that a field may hold.
-#[derive(Clone, Copy)]
+// A range of its own: a definition cannot make a `RangeInclusive`, whose fields are the library's own.
+#[derive(Clone, Copy, Debug, PartialEq, Eq)]
 pub struct Range {
     pub low: u64,
     pub high: u64,
@@ -72,14 +75,7 @@ impl Field {
     pub fn number(self) -> u8
         ensures { result ≡ field_number self }
     {
-        match self {
-            Field::Side => 1,
-            Field::Kind => 2,
-            Field::Strike => 3,
-            Field::Days => 4,
-            Field::Price => 5,
-            Field::Quantity => 6,
-        }
+        self as u8
     }
 }
 
@@ -103,30 +99,16 @@ impl RecordFault {
     }
 }
 
-// The side that a letter stands for.
-pub fn side_of(letter: char) -> Option<Side>
-    ensures { result ≡ side_of letter }
-{
-    match letter {
-        'L' => Some(Side::Long),
-        'S' => Some(Side::Short),
-        _ => None,
+// The number and the detail.
+impl fmt::Display for RecordFault {
+    ghost output = { λ f. Some (refusal_text f) };
+
+    fn fmt<W: fmt::Write>(&self, f: &mut fmt::Formatter<W>) -> fmt::Result {
+        write!(f, "refused={},{}", self.number(), self.detail())
     }
 }
 
-// The kind that a letter stands for.
-pub fn kind_of(letter: char) -> Option<Kind>
-    ensures { result ≡ kind_of letter }
-{
-    match letter {
-        'U' => Some(Kind::Units),
-        'C' => Some(Kind::Call),
-        'P' => Some(Kind::Put),
-        'F' => Some(Kind::Futures),
-        'R' => Some(Kind::Receipt),
-        _ => None,
-    }
-}
+impl Error for RecordFault {}
 
 pub(crate) fn from_to(low: u64, high: u64) -> Range
     ensures { result ≡ from_to low high }

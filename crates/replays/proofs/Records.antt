@@ -9,7 +9,7 @@ use Rattle.positions.specs.declared.Entry.{Entry}
 use Rattle.positions.specs.declared.Range.{Range}
 use Rattle.positions.specs.declared.RecordFault.{RecordFault}
 use Rattle.positions.specs.declared.record.Record.{Record}
-use Rattle.positions.specs.Letters.{side_of, kind_of, sided, on_side, kind_for, side_letter, kind_letter}
+use Rattle.positions.specs.Letters.{side_of, kind_of, side_letter, kind_letter, sided, on_side, kind_for}
 use Rattle.positions.specs.Ranges.{holds, strike_range, day_range, price_range, quantity_range, in_range}
 use Rattle.positions.specs.Records.{decide, judged, ranged, kinds_of, sides_of, record_of}
 use Rattle.positions.specs.Bounds.{strike_high, price_high}
