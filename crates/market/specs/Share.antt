@@ -3,12 +3,15 @@ use Rattle.std.specs.Prelude.{ℕ, ◌+◌, ◌*◌, Bool, cond, Ok, Err, Option
 use Rattle.amounts.specs.Rates.{points}
 use Rattle.market.specs.declared.SheetFault.{SheetFault}
 use Rattle.market.specs.declared.SheetFault.TheVariants.{OutOfRange}
-use Rattle.market.specs.declared.share_sheet.Row.{Row}
 use Rattle.market.specs.declared.share_sheet.ShareSheet.{ShareSheet}
 use Rattle.market.specs.Quote.{Quote}
 use Rattle.market.specs.Sheets.{price_in_range, rate_in_range, none_or_in_range}
 
--- the table by price: the long percentage of the price, and the short requirement of one unit in parts
+-- a row of the table by price: the long percentage of the price, and the short requirement of one unit in parts
+pub record Row : Type 0 where
+  pub long_rate : ℕ
+  pub short : ℕ
+
 abbrev pub row_at : ℕ → Bool → Row
 row_at price reduced =
     cond (nat_le 200 price) (cond reduced (record { long_rate = 3000; short = 13000 * price }) (record { long_rate = 5000; short = 15000 * price }))

@@ -1,5 +1,5 @@
 -- The ranges of a sheet's values, and the refusal of a sheet.
-use Rattle.std.specs.Prelude.{ℕ, Bool, true, cond, Some, None, Ok, Err, Option, Result}
+use Rattle.std.specs.Prelude.{ℕ, List, ◌++◌, codes, decimal, Bool, true, cond, Some, None, Ok, Err, Option, Result}
 use Rattle.amounts.specs.Ranges.{inside}
 use Rattle.market.specs.declared.SheetFault.{SheetFault}
 use Rattle.market.specs.declared.SheetFault.TheVariants.{OutOfRange}
@@ -24,3 +24,7 @@ accepted ok value = cond ok (Ok value) (Err OutOfRange)
 -- 18: a value outside its range; nothing is returned with it
 abbrev pub sheet_number : SheetFault → ℕ
 sheet_number OutOfRange = 18
+
+-- the refusal as text: its number
+abbrev pub sheet_text : SheetFault → List ℕ
+sheet_text f = codes "refused=" ++ decimal (sheet_number f)

@@ -1,11 +1,11 @@
 // What the rules need to know of the market in one underlying interest, and the two sheets that tell it.
 #![tactic(auto)]
 
-ghost use Rattle.std.specs.Prelude.{◌≡◌, ◌≤◌, IfOk};
+ghost use Rattle.std.specs.Prelude.{◌≡◌, ◌≤◌, IfOk, Some};
 ghost use Rattle.amounts.specs.Rates.{points};
 ghost use Rattle.std.specs.Result.{result_map_both};
 ghost use Rattle.market.specs.Quote.{Quote, Limits, tracking_of, basis_points_of, cents_in};
-ghost use Rattle.market.specs.Sheets.{sheet_number, price_in_range, rate_in_range, none_or_in_range, accepted};
+ghost use Rattle.market.specs.Sheets.{sheet_number, sheet_text, price_in_range, rate_in_range, none_or_in_range, accepted};
 
 mod currency;
 mod currency_sheet;
@@ -15,6 +15,8 @@ mod share_sheet;
 use amounts::{Cents, Rate, UnitAmount};
 pub use currency_sheet::CurrencySheet;
 pub use share_sheet::ShareSheet;
+use std::error::Error;
+use std::fmt;
 
 // Its answers never change.
 pub trait Market {
@@ -50,15 +52,15 @@ pub trait Market {
 }
 
 // What a market refuses.
-#[derive(Clone, Copy)]
+#[derive(Clone, Copy, Debug, PartialEq, Eq)]
 pub enum MarketFault {
     NoTracking,
 }
 
-// Why no sheet is made.
-#[derive(Clone, Copy)]
+// Why no sheet is made, by the number under which it is known.
+#[derive(Clone, Copy, Debug, PartialEq, Eq)]
 pub enum SheetFault {
-    OutOfRange,
+    OutOfRange = 18,
 }
 
 impl SheetFault {
@@ -66,20 +68,26 @@ impl SheetFault {
     pub fn number(self) -> u8
         ensures { result ≡ sheet_number self }
     {
-        match self {
-            SheetFault::OutOfRange => 18,
-        }
+        self as u8
     }
 }
+
+// The number.
+impl fmt::Display for SheetFault {
+    ghost output = { λ f. Some (sheet_text f) };
+
+    fn fmt<W: fmt::Write>(&self, f: &mut fmt::Formatter<W>) -> fmt::Result {
+        write!(f, "refused={}", self.number())
+    }
+}
+
+impl Error for SheetFault {}
 
 // The tracking rate where a rule cannot do without one.
 pub fn tracking<M: Market>(market: &M) -> Result<Rate, MarketFault>
     ensures { result_map_both basis_points_of (λ f. f) result ≡ tracking_of (M.Market.quote market.now) }
 {
-    match market.tracking_rate() {
-        Some(rate) => Ok(rate),
-        None => Err(MarketFault::NoTracking),
-    }
+    market.tracking_rate().ok_or(MarketFault::NoTracking)
 }
 
 // A price that a sheet may hold.
@@ -87,32 +95,21 @@ fn price_of(cents: u64) -> Result<Cents, SheetFault>
     ensures value { result_map_both cents_in (λ f. f) result ≡ accepted (price_in_range cents) cents }
     ensures some { IfOk result (λ c. 1 ≤ c.amount) }
 {
-    if cents < 1 || cents > 500_000 {
-        return Err(SheetFault::OutOfRange);
-    }
-    Ok(Cents {
-        amount: cents as u32,
-    })
+    Cents::new(cents)
+        .filter(|price| price.amount >= 1)
+        .ok_or(SheetFault::OutOfRange)
 }
 
 // A rate that a sheet may hold.
 fn rate_of(basis_points: u64) -> Result<Rate, SheetFault>
     ensures { result_map_both basis_points_of (λ f. f) result ≡ accepted (rate_in_range basis_points) basis_points }
 {
-    if basis_points > 10_000 {
-        return Err(SheetFault::OutOfRange);
-    }
-    Ok(Rate {
-        basis_points: basis_points as u16,
-    })
+    Rate::new(basis_points).ok_or(SheetFault::OutOfRange)
 }
 
 // A rate that may be none.
 fn optional_rate(basis_points: Option<u64>) -> Result<Option<Rate>, SheetFault>
     ensures { result_map_both points (λ f. f) result ≡ accepted (none_or_in_range basis_points) basis_points }
 {
-    match basis_points {
-        Some(n) => Ok(Some(rate_of(n)?)),
-        None => Ok(None),
-    }
+    basis_points.map(rate_of).transpose()
 }

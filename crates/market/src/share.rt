@@ -8,42 +8,27 @@ use crate::share_sheet::{Row, ShareSheet};
 use crate::{Market, SheetFault};
 use amounts::{Cents, Rate, UnitAmount};
 
-// The table by price: the long percentage, and the short requirement of one unit in parts.
-fn row_at(price: Cents, reduced: bool) -> Row
-    ensures value { result ≡ row_at price.amount reduced }
-    ensures rate { result.long_rate ≤ 10000 }
-    ensures bound { result.short ≤ 10000000000 }
-{
-    let cents = price.amount as u64;
-    match price.amount {
-        200.. if reduced => Row {
-            long_rate: 3_000,
-            short: 13_000 * cents,
-        },
-        200.. => Row {
-            long_rate: 5_000,
-            short: 15_000 * cents,
-        },
-        175..=199 => Row {
-            long_rate: 6_000,
-            short: 300 * 10_000,
-        },
-        150..=174 => Row {
-            long_rate: 8_000,
-            short: 300 * 10_000,
-        },
-        25..=149 => Row {
-            long_rate: 10_000,
-            short: 20_000 * cents,
-        },
-        _ => Row {
-            long_rate: 10_000,
-            short: (cents + 25) * 10_000,
-        },
-    }
-}
-
 impl ShareSheet {
+    // The row of the table at the price.
+    fn row(&self) -> Row
+        ensures rate { result.long_rate.basis_points ≡ (row_at self.now.price.amount self.now.reduced).long_rate }
+        ensures short { result.short.parts ≡ (row_at self.now.price.amount self.now.reduced).short }
+    {
+        let cents = self.price.amount as u64;
+        let (basis_points, parts) = match self.price.amount {
+            200.. if self.reduced => (3_000, 13_000 * cents),
+            200.. => (5_000, 15_000 * cents),
+            175..=199 => (6_000, 300 * 10_000),
+            150..=174 => (8_000, 300 * 10_000),
+            25..=149 => (10_000, 20_000 * cents),
+            _ => (10_000, (cents + 25) * 10_000),
+        };
+        Row {
+            long_rate: Rate { basis_points },
+            short: UnitAmount { parts },
+        }
+    }
+
     // The sheet, or a refusal where a value is outside its range.
     pub fn new(
         price: u64,
@@ -84,15 +69,11 @@ impl Market for ShareSheet {
     }
 
     fn short_requirement(&self) -> UnitAmount {
-        UnitAmount {
-            parts: row_at(self.price, self.reduced).short,
-        }
+        self.row().short
     }
 
     fn option_rate(&self) -> Rate {
-        Rate {
-            basis_points: row_at(self.price, self.reduced).long_rate,
-        }
+        self.row().long_rate
     }
 
     fn floor_rate(&self) -> Rate {

@@ -1,9 +1,9 @@
 ghost use Rattle.std.specs.Prelude.{◌≤◌};
 
-use amounts::{Cents, Rate};
+use amounts::{Cents, Rate, UnitAmount};
 
 // The published rates of a share: its price, whether it is eligible for a reduced margin, and its floor, futures and tracking rates.
-#[derive(Clone, Copy)]
+#[derive(Clone, Copy, Debug, PartialEq, Eq)]
 pub struct ShareSheet {
     pub price: Cents,
     pub reduced: bool,
@@ -13,9 +13,9 @@ pub struct ShareSheet {
     ghost some: { 1 ≤ price.amount },
 }
 
-// A row of the table by price.
+// A row of the table by price: the long percentage, and the short requirement of one unit.
 #[derive(Clone, Copy)]
 pub struct Row {
-    pub long_rate: u16,
-    pub short: u64,
+    pub long_rate: Rate,
+    pub short: UnitAmount,
 }
