@@ -8,18 +8,12 @@ ghost use Rattle.examples.specs.Examples.{sample_size, sample, Priced};
 use amounts::{Cents, ContractSize, Rate};
 use market::ShareSheet;
 
-fn hundred() -> ContractSize
-    ensures { result.units ≡ sample_size }
-{
-    ContractSize { units: 100 }
-}
-
 // Contracts of 100 units: with these, each row of the table of examples comes to its parts on the sample sheet.
 pub fn sample_size() -> ContractSize
     ensures size { result.units ≡ sample_size }
     ensures priced { Priced }
 {
-    hundred()
+    ContractSize { units: 100 }
 }
 
 // A share at 5,000 cents, with no reduced margin, floor rate 500, futures rate 2,000 and tracking rate 150.
