@@ -2,8 +2,21 @@
 #![tactic(auto)]
 
 use amounts::ContractSize;
-use market::{CurrencySheet, ShareSheet, SheetFault};
+use market::{CurrencySheet, ShareSheet};
 use positions::{Entry, Field, Record};
+use std::fmt::Display;
+
+// The least entry of a kind.
+fn least(side: char, kind: char) -> Entry {
+    Entry {
+        side,
+        kind,
+        strike: if matches!(kind, 'C' | 'P') { 1 } else { 0 },
+        days: 0,
+        price: if kind == 'F' { 1 } else { 0 },
+        quantity: 1,
+    }
+}
 
 // An entry with one of its numbers replaced; its letters stay.
 fn with(entry: Entry, field: Field, value: u64) -> Entry {
@@ -28,15 +41,14 @@ fn with(entry: Entry, field: Field, value: u64) -> Entry {
     }
 }
 
-// Prints the entry's fate.
-fn print_entry(rt: &HostRuntime, size: ContractSize, entry: &Entry) -> anyhow::Result<()> {
-    match Record::new(size, entry) {
+// Prints that a value was made, or why not.
+fn print_made<T: Drop, E: Display + Drop>(
+    rt: &HostRuntime,
+    made: Result<T, E>,
+) -> anyhow::Result<()> {
+    match made {
         Ok(_) => println!(rt; " made")?,
-        Err(fault) => {
-            let number = fault.number();
-            let field = fault.detail();
-            println!(rt; " refused={number},{field}")?;
-        }
+        Err(fault) => println!(rt; " {fault}")?,
     }
     Ok(())
 }
@@ -48,11 +60,9 @@ fn print_numbers(
     field: Field,
     values: &[u64],
 ) -> anyhow::Result<()> {
-    for value in values {
-        let number = field.number();
-        let kind = entry.kind;
-        print!(rt; "{kind} field {number} at {value}:")?;
-        print_entry(rt, size, &with(entry, field, *value))?;
+    for &value in values {
+        print!(rt; "{} field {} at {value}:", entry.kind, field.number())?;
+        print_made(rt, Record::new(size, &with(entry, field, value)))?;
     }
     Ok(())
 }
@@ -75,168 +85,54 @@ fn print_letters(rt: &HostRuntime, size: ContractSize) -> anyhow::Result<()> {
     for side in ['L', 'S', 'l', 'X'] {
         for kind in ['U', 'C', 'P', 'F', 'R', 'K'] {
             print!(rt; "{side},{kind}:")?;
-            let strike = if kind == 'C' || kind == 'P' { 1 } else { 0 };
-            let price = if kind == 'F' { 1 } else { 0 };
-            print_entry(
-                rt,
-                size,
-                &Entry {
-                    side,
-                    kind,
-                    strike,
-                    days: 0,
-                    price,
-                    quantity: 1,
-                },
-            )?;
+            print_made(rt, Record::new(size, &least(side, kind)))?;
         }
-    }
-    Ok(())
-}
-
-fn print_made<T: Drop>(
-    rt: &HostRuntime,
-    what: &str,
-    value: u64,
-    made: Option<T>,
-) -> anyhow::Result<()> {
-    match made {
-        Some(_) => println!(rt; "{what} {value}: made")?,
-        None => println!(rt; "{what} {value}: none")?,
-    }
-    Ok(())
-}
-
-fn print_sheet<T: Drop>(
-    rt: &HostRuntime,
-    what: &str,
-    value: u64,
-    made: Result<T, SheetFault>,
-) -> anyhow::Result<()> {
-    match made {
-        Ok(_) => println!(rt; "{what} {value}: made")?,
-        Err(fault) => {
-            let number = fault.number();
-            println!(rt; "{what} {value}: refused={number}")?;
-        }
-    }
-    Ok(())
-}
-
-fn print_sheets(rt: &HostRuntime) -> anyhow::Result<()> {
-    for value in [0, 1, 500_000, 500_001] {
-        print_sheet(
-            rt,
-            "share price",
-            value,
-            ShareSheet::new(value, true, 0, None, None),
-        )?;
-        print_sheet(rt, "currency price", value, CurrencySheet::new(value, 0))?;
-    }
-    for value in [0, 1, 10_000, 10_001] {
-        print_sheet(
-            rt,
-            "share floor",
-            value,
-            ShareSheet::new(1, true, value, None, None),
-        )?;
-        print_sheet(
-            rt,
-            "share futures",
-            value,
-            ShareSheet::new(1, true, 0, Some(value), None),
-        )?;
-        print_sheet(
-            rt,
-            "share tracking",
-            value,
-            ShareSheet::new(1, true, 0, None, Some(value)),
-        )?;
-        print_sheet(rt, "currency spot", value, CurrencySheet::new(1, value))?;
     }
     Ok(())
 }
 
 fn print_records(rt: &HostRuntime, size: ContractSize) -> anyhow::Result<()> {
-    let units = size.units;
-    println!(rt; "contracts of {units}")?;
-    let all = 5_000 * size.units as u64;
-    print_kind(
-        rt,
-        size,
-        Entry {
-            side: 'S',
-            kind: 'U',
-            strike: 0,
-            days: 0,
-            price: 0,
-            quantity: 1,
-        },
-        all,
-    )?;
-    print_kind(
-        rt,
-        size,
-        Entry {
-            side: 'L',
-            kind: 'C',
-            strike: 1,
-            days: 0,
-            price: 0,
-            quantity: 1,
-        },
-        5_000,
-    )?;
-    print_kind(
-        rt,
-        size,
-        Entry {
-            side: 'S',
-            kind: 'P',
-            strike: 1,
-            days: 0,
-            price: 0,
-            quantity: 1,
-        },
-        5_000,
-    )?;
-    print_kind(
-        rt,
-        size,
-        Entry {
-            side: 'L',
-            kind: 'F',
-            strike: 0,
-            days: 0,
-            price: 1,
-            quantity: 1,
-        },
-        5_000,
-    )?;
-    print_kind(
-        rt,
-        size,
-        Entry {
-            side: 'L',
-            kind: 'R',
-            strike: 0,
-            days: 0,
-            price: 0,
-            quantity: 1,
-        },
-        5_000,
-    )?;
+    println!(rt; "contracts of {}", size.units)?;
+    let units = 5_000 * size.units as u64;
+    for (side, kind, most) in [
+        ('S', 'U', units),
+        ('L', 'C', 5_000),
+        ('S', 'P', 5_000),
+        ('L', 'F', 5_000),
+        ('L', 'R', 5_000),
+    ] {
+        print_kind(rt, size, least(side, kind), most)?;
+    }
     print_letters(rt, size)
+}
+
+fn print_sheets(rt: &HostRuntime) -> anyhow::Result<()> {
+    for value in [0, 1, 500_000, 500_001] {
+        print!(rt; "share price {value}:")?;
+        print_made(rt, ShareSheet::new(value, true, 0, None, None))?;
+        print!(rt; "currency price {value}:")?;
+        print_made(rt, CurrencySheet::new(value, 0))?;
+    }
+    for value in [0, 1, 10_000, 10_001] {
+        print!(rt; "share floor {value}:")?;
+        print_made(rt, ShareSheet::new(1, true, value, None, None))?;
+        print!(rt; "share futures {value}:")?;
+        print_made(rt, ShareSheet::new(1, true, 0, Some(value), None))?;
+        print!(rt; "share tracking {value}:")?;
+        print_made(rt, ShareSheet::new(1, true, 0, None, Some(value)))?;
+        print!(rt; "currency spot {value}:")?;
+        print_made(rt, CurrencySheet::new(1, value))?;
+    }
+    Ok(())
 }
 
 fn main(rt: HostRuntime) -> anyhow::Result<()> {
     for value in [0, 1, 1_000, 1_001] {
-        print_made(&rt, "size", value, ContractSize::new(value))?;
+        print!(rt; "size {value}:")?;
+        print_made(&rt, ContractSize::new(value).ok_or("none"))?;
     }
-    for value in [1, 100, 1_000] {
-        if let Some(size) = ContractSize::new(value) {
-            print_records(&rt, size)?;
-        }
+    for size in [1, 100, 1_000].into_iter().filter_map(ContractSize::new) {
+        print_records(&rt, size)?;
     }
     print_sheets(&rt)
 }
