@@ -8,16 +8,12 @@ use Rattle.positions.specs.declared.Kind.TheVariants.{Units, Call, Put, Futures,
 use Rattle.positions.specs.Kinds.{other_side}
 use Rattle.positions.specs.Records.{Terms}
 use Rattle.pricing.specs.declared.Right.{Right}
-use Rattle.pricing.specs.declared.Right.TheVariants as right
+use Rattle.pricing.specs.Kinds.{kind_of_right}
 use Rattle.pricing.specs.Alone.{positive_part}
 use Rattle.articles.specs.declared.Leg.TheVariants.{First, Second, Third}
 use Rattle.articles.specs.declared.ArticleFault.{ArticleFault}
 use Rattle.articles.specs.Conditions.{leg_is, not_later, same_days, tracked, and_then}
 use Rattle.articles.specs.Sets.{spread_amount, straddle_amount, protective_put_amount, conversion_amount, reconversion_amount}
-
-abbrev pub kind_of_right : Right → Kind
-kind_of_right right.Call = Call
-kind_of_right right.Put = Put
 
 -- 1 (calls) and 2 (puts). A spread: long option, short option, the short one's days not above the long one's
 abbrev pub spread : Quote → ℕ → Right → Terms → Terms → Result ℕ ArticleFault
@@ -59,6 +55,11 @@ conversion q size put call futures =
 abbrev pub reconversion : Quote → ℕ → Terms → Terms → Terms → Result ℕ ArticleFault
 reconversion q size put call futures =
     and_then (aligned q Short put call futures) (λ t. Ok (positive_part (reconversion_amount size t put call futures)))
+
+-- either, by the side of the put and of the futures
+abbrev pub converted : Quote → ℕ → Side → Terms → Terms → Terms → Result ℕ ArticleFault
+converted q size Long = conversion q size
+converted q size Short = reconversion q size
 
 -- 5 of the currency book. A call on an escrow receipt: short call, receipt; nothing is required
 abbrev pub receipt_call : Terms → Terms → Result ℕ ArticleFault

@@ -1,5 +1,5 @@
 -- The causes of refusal, with their numbers and the leg that each names.
-use Rattle.std.specs.Prelude.{ℕ}
+use Rattle.std.specs.Prelude.{ℕ, Some, None, Option}
 use Rattle.market.specs.declared.MarketFault.{MarketFault}
 use Rattle.market.specs.declared.MarketFault.TheVariants.{NoTracking}
 use Rattle.articles.specs.declared.Leg.{Leg}
@@ -12,6 +12,11 @@ leg_number First = 1
 leg_number Second = 2
 leg_number Third = 3
 
+-- the number of a leg, 0 for none
+abbrev pub leg_or_zero : Option Leg → ℕ
+leg_or_zero None = 0
+leg_or_zero (Some leg) = leg_number leg
+
 -- 1: a leg's kind or side; 2: days; 3: no tracking rate
 abbrev pub cause_number : ArticleFault → ℕ
 cause_number (WrongLeg leg) = 1
@@ -19,10 +24,10 @@ cause_number (WrongDays leg) = 2
 cause_number (Market NoTracking) = 3
 
 -- the leg at fault; none for the market's cause
-abbrev pub cause_leg : ArticleFault → ℕ
-cause_leg (WrongLeg leg) = leg_number leg
-cause_leg (WrongDays leg) = leg_number leg
-cause_leg (Market NoTracking) = 0
+abbrev pub cause_leg : ArticleFault → Option Leg
+cause_leg (WrongLeg leg) = Some leg
+cause_leg (WrongDays leg) = Some leg
+cause_leg (Market NoTracking) = None
 
 -- the market's cause passes unaltered
 abbrev pub from_market : MarketFault → ArticleFault

@@ -2,6 +2,8 @@
 use Rattle.std.specs.Prelude.{ℕ, ◌+◌, ◌-◌, ◌*◌, min, max, ℤ, pos, ◌-ℤ◌, ◌*ℤ◌}
 use Rattle.std.specs.Int.{int_max}
 use Rattle.market.specs.Quote.{Quote}
+use Rattle.positions.specs.declared.Side.{Side}
+use Rattle.positions.specs.declared.Side.TheVariants.{Long, Short}
 use Rattle.positions.specs.Records.{Terms}
 use Rattle.pricing.specs.declared.Right.{Right}
 use Rattle.pricing.specs.declared.Right.TheVariants.{Call, Put}
@@ -48,3 +50,8 @@ conversion_amount size tracked put call futures =
 abbrev pub reconversion_amount : ℕ → ℕ → Terms → Terms → Terms → ℤ
 reconversion_amount size tracked put call futures =
     int_max (pos (size * tracked)) (signed_contract size (max put.strike call.strike + call.price) (futures.price + put.price))
+
+-- by the side of the put and of the futures: long in a conversion, short in a reconversion
+abbrev pub converted_amount : ℕ → ℕ → Side → Terms → Terms → Terms → ℤ
+converted_amount size tracked Long = conversion_amount size tracked
+converted_amount size tracked Short = reconversion_amount size tracked

@@ -12,7 +12,7 @@ mod legs;
 mod sets;
 
 pub use by_article::set_requirement;
-pub use legs::{conversion, protective_put, receipt_call, reconversion, spread, straddle};
+pub use legs::{ConversionLegs, conversion, protective_put, receipt_call, spread, straddle};
 use market::MarketFault;
 
 // The articles by name.
@@ -30,7 +30,7 @@ pub enum Article {
 // A leg of a set, in the article's order.
 #[derive(Clone, Copy)]
 pub enum Leg {
-    First,
+    First = 1,
     Second,
     Third,
 }
@@ -74,11 +74,7 @@ impl Leg {
     pub fn number(self) -> u8
         ensures { result ≡ leg_number self }
     {
-        match self {
-            Leg::First => 1,
-            Leg::Second => 2,
-            Leg::Third => 3,
-        }
+        self as u8
     }
 }
 
@@ -94,14 +90,14 @@ impl ArticleFault {
         }
     }
 
-    // The number of the leg that is named, 0 for none.
-    pub fn leg(self) -> u8
+    // The leg that is named, if one is.
+    pub fn leg(self) -> Option<Leg>
         ensures { result ≡ cause_leg self }
     {
         match self {
-            ArticleFault::WrongLeg(leg) => leg.number(),
-            ArticleFault::WrongDays(leg) => leg.number(),
-            ArticleFault::Market(MarketFault::NoTracking) => 0,
+            ArticleFault::WrongLeg(leg) => Some(leg),
+            ArticleFault::WrongDays(leg) => Some(leg),
+            ArticleFault::Market(MarketFault::NoTracking) => None,
         }
     }
 }

@@ -17,13 +17,12 @@ use Rattle.pricing.specs.declared.Right.TheVariants as right
 use Rattle.pricing.specs.Alone.{by_kind, alone}
 use Rattle.articles.specs.declared.Article.{Article}
 use Rattle.articles.specs.declared.Article.TheVariants.{CallSpread, PutSpread, Straddle, ProtectivePut, Conversion, Reconversion, ReceiptCall}
-use Rattle.articles.specs.declared.Leg.{Leg}
 use Rattle.articles.specs.declared.Leg.TheVariants.{First, Second, Third}
 use Rattle.articles.specs.declared.ArticleFault.{ArticleFault}
 use Rattle.articles.specs.declared.ArticleFault.TheVariants.{WrongLeg, WrongDays, Market}
-use Rattle.articles.specs.Causes.{leg_number}
 use Rattle.articles.specs.Conditions.{leg_is, not_later, same_days, tracked_at, and_then}
-use Rattle.articles.specs.Articles.{kind_of_right, spread, straddle, protective_put, aligned, conversion, reconversion, receipt_call}
+use Rattle.pricing.specs.Kinds.{kind_of_right}
+use Rattle.articles.specs.Articles.{spread, straddle, protective_put, aligned, conversion, reconversion, receipt_call}
 use Rattle.articles.specs.ByArticle.{legs_of, of_two, of_three, requirement_of}
 use Rattle.books.specs.Tables.{Within, Lawful}
 use Rattle.market.specs.declared.share_sheet.ShareSheet.{ShareSheet}
@@ -38,15 +37,10 @@ use Rattle.books.specs.Amounts.{Bounded, bounded, unit_limit, alone_limit, sprea
 
 -- ---- causes
 
-leg_limit : (leg : Leg) → leg_number leg ≤ 3
-leg_limit First = omega arith
-leg_limit Second = omega arith
-leg_limit Third = omega arith
-
 raised_within : (f : ArticleFault) → Within (Err (raised f))
-raised_within (WrongLeg leg) = (omega arith, omega arith, leg_limit leg)
-raised_within (WrongDays leg) = (omega arith, omega arith, leg_limit leg)
-raised_within (Market NoTracking) = (omega arith, omega arith, omega arith)
+raised_within (WrongLeg leg) = (omega arith, omega arith)
+raised_within (WrongDays leg) = (omega arith, omega arith)
+raised_within (Market NoTracking) = (omega arith, omega arith)
 
 -- ---- what comes after conditions
 

@@ -21,10 +21,10 @@ Has t article = (1 ≤ article) × (article ≤ t.articles)
 abbrev pub Size : ℕ → Type 0
 Size size = (1 ≤ size) × (size ≤ 1000)
 
--- a requirement is at most 10,000,000,000,000 parts; a cause is from 1 to 255, and a leg at most 3
+-- a requirement is at most 10,000,000,000,000 parts; a cause is from 1 to 255, and a leg, if it names one, is of three by its type
 abbrev pub Within : Result ℕ BookFault → Type 0
 Within (Ok parts) = parts ≤ 10000000000000
-Within (Err fault) = (1 ≤ fault.cause) × (fault.cause ≤ 255) × (fault.leg ≤ 3)
+Within (Err fault) = (1 ≤ fault.cause) × (fault.cause ≤ 255)
 
 -- a book has 1 to 16 articles of 2 or 3 legs; its answers keep the limits, for a unit of the underlying alone 10,000,000,000 parts;
 -- and the quantity does not matter: what is asked of records that are equal but for it is answered alike

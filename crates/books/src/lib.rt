@@ -2,19 +2,31 @@
 #![tactic(auto)]
 
 ghost use Rattle.std.specs.Prelude.{◌≡◌, length};
+ghost use Rattle.articles.specs.Causes.{leg_or_zero};
 ghost use Rattle.books.specs.Tables.{Tables, Has, Lawful};
 
 mod sheets;
 
 use amounts::ContractSize;
+use articles::Leg;
 use positions::Record;
 pub use sheets::Sheet;
 
-// Why a book refuses a set: a cause from 1 to 255, and the leg that it names, from 1 to 3, or 0 for none.
+// Why a book refuses a set: a cause from 1 to 255, and the leg that it names, if it names one.
+// The cause is a number, since any book may have causes of its own.
 #[derive(Clone, Copy)]
 pub struct BookFault {
     pub cause: u8,
-    pub leg: u8,
+    pub leg: Option<Leg>,
+}
+
+impl BookFault {
+    // The number of the leg that is named, 0 for none.
+    pub fn leg_number(self) -> u8
+        ensures { result ≡ leg_or_zero self.leg }
+    {
+        self.leg.map_or(0, |leg| leg.number())
+    }
 }
 
 // Anything that keeps four such tables is a book.

@@ -10,7 +10,7 @@ use amounts::ContractSize;
 use articles::{Article, ArticleFault, set_requirement};
 use market::{CurrencySheet, ShareSheet};
 use positions::Record;
-use pricing::alone;
+use pricing::Contract;
 
 // The cause and the leg pass unaltered.
 impl From<ArticleFault> for BookFault {
@@ -67,11 +67,15 @@ impl Book for ShareSheet {
     }
 
     fn alone(&self, size: ContractSize, position: &Record) -> u64 {
-        alone(self, size, position)
+        Contract { market: self, size }.alone(position)
     }
 
     fn paired(&self, size: ContractSize, article: u8, legs: &[Record]) -> Result<u64, BookFault> {
-        Ok(set_requirement(self, size, share_article(article), legs)?)
+        Ok(set_requirement(
+            &Contract { market: self, size },
+            share_article(article),
+            legs,
+        )?)
     }
 }
 
@@ -89,11 +93,15 @@ impl Book for CurrencySheet {
     }
 
     fn alone(&self, size: ContractSize, position: &Record) -> u64 {
-        alone(self, size, position)
+        Contract { market: self, size }.alone(position)
     }
 
     fn paired(&self, size: ContractSize, article: u8, legs: &[Record]) -> Result<u64, BookFault> {
-        Ok(set_requirement(self, size, currency_article(article), legs)?)
+        Ok(set_requirement(
+            &Contract { market: self, size },
+            currency_article(article),
+            legs,
+        )?)
     }
 }
 

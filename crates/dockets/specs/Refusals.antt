@@ -3,7 +3,7 @@ use Rattle.std.specs.Prelude.{ℕ}
 use Rattle.positions.specs.declared.RecordFault.{RecordFault}
 use Rattle.positions.specs.declared.RecordFault.TheVariants.{OutOfRange}
 use Rattle.positions.specs.Refusals.{field_number}
-use Rattle.articles.specs.Causes.{leg_number}
+use Rattle.articles.specs.Causes.{leg_number, leg_or_zero}
 use Rattle.books.specs.declared.BookFault.{BookFault}
 use Rattle.certificate.specs.declared.CertifyFault.{CertifyFault}
 use Rattle.certificate.specs.declared.CertifyFault.TheVariants as fault
@@ -45,7 +45,7 @@ refusal_details NoSuchArticle = four_of 0 0 0 0
 refusal_details SetsOutOfRange = four_of 0 0 0 0
 refusal_details (NoSuchPosition leg) = four_of (leg_number leg) 0 0 0
 refusal_details (PositionTwice leg) = four_of (leg_number leg) 0 0 0
-refusal_details (BookRefuses cause) = four_of cause.cause cause.leg 0 0
+refusal_details (BookRefuses cause) = four_of cause.cause (leg_or_zero cause.leg) 0 0
 refusal_details (UnitsShort leg) = four_of (leg_number leg) 0 0 0
 refusal_details ClaimsFull = four_of 0 0 0 0
 refusal_details ClaimTooLarge = four_of 0 0 0 0

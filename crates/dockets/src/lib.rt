@@ -134,7 +134,7 @@ impl Refusal {
             Refusal::PositionTwice(leg) => one(leg.number() as usize),
             Refusal::BookRefuses(fault) => Details {
                 one: fault.cause as usize,
-                two: fault.leg as usize,
+                two: fault.leg_number() as usize,
                 three: 0,
                 four: 0,
             },

@@ -53,7 +53,8 @@ fn print_set(
         Ok(parts) => println!(rt; "{article}: {what}: {parts}")?,
         Err(fault) => println!(rt;
             "{article}: {what}: refused by cause {}, leg {}",
-            fault.cause, fault.leg
+            fault.cause,
+            fault.leg_number()
         )?,
     }
     Ok(())

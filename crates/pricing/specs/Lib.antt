@@ -1,2 +1,3 @@
+pub mod Kinds
 pub mod Options
 pub mod Alone

@@ -4,6 +4,7 @@
 ghost use Rattle.std.specs.Prelude.{◌≡◌, ◌-◌, ◌≤◌, pos};
 ghost use Rattle.positions.specs.Records.{terms};
 ghost use Rattle.pricing.specs.Options.{in_the_money, out_of_the_money, time_value, counted_time_value, long_option, before_floor, floor_amount, short_option};
+ghost use Rattle.pricing.specs.Kinds.{kind_of_right};
 ghost use Rattle.pricing.specs.Alone.{units, futures, option_alone, alone};
 
 use amounts::{Cents, ContractSize, UnitAmount};
@@ -11,14 +12,34 @@ use market::Market;
 use positions::{Kind, Record, Side};
 
 // What an option gives a right to: a call to buy, a put to sell.
-#[derive(Clone, Copy)]
+#[derive(Clone, Copy, PartialEq, Eq, Debug)]
 pub enum Right {
     Call,
     Put,
 }
 
+impl From<Right> for Kind {
+    ghost from_gives = { λ x y. y ≡ kind_of_right x };
+
+    fn from(right: Right) -> Kind
+        ensures { result ≡ kind_of_right right }
+    {
+        match right {
+            Right::Call => Kind::Call,
+            Right::Put => Kind::Put,
+        }
+    }
+}
+
+// What is priced: contracts of so many units, in one market.
+#[derive_where(Clone, Copy)]
+pub struct Contract<'a, M> {
+    pub market: &'a M,
+    pub size: ContractSize,
+}
+
 // How far one amount is above another, 0 where it is not.
-fn above(a: Cents, b: Cents) -> Cents
+pub fn above(a: Cents, b: Cents) -> Cents
     ensures { result.amount ≡ a.amount - b.amount }
 {
     let amount = a.amount.saturating_sub(b.amount);
@@ -64,51 +85,6 @@ pub fn counted_time_value(time_value: Cents, days: u16) -> u64
     }
 }
 
-// A long option: the time value that counts, and the lesser of the long requirement and the amount in the money.
-pub fn long_option<M: Market>(market: &M, size: ContractSize, right: Right, option: &Record) -> u64
-    ensures { result ≡ long_option (M.Market.quote market.now) size.units right (terms option.now) }
-{
-    let in_money = in_the_money(right, option.strike_cents(), market.price());
-    let time = counted_time_value(time_value(option.price_cents(), in_money), option.days);
-    let held = market.long_requirement().parts.min(in_money.parts());
-    size.times(UnitAmount { parts: time + held })
-}
-
-// A short option's first amount: the premium and the option rate of the price, less the amount out of the money. It may be negative.
-pub fn before_floor<M: Market>(market: &M, size: ContractSize, right: Right, option: &Record) -> i64
-    ensures { result ≡ before_floor (M.Market.quote market.now) size.units right (terms option.now) }
-{
-    let out = out_of_the_money(right, option.strike_cents(), market.price());
-    let required = option.price_cents().parts() + market.option_rate().of(market.price());
-    size.difference(
-        UnitAmount { parts: required },
-        UnitAmount { parts: out.parts() },
-    )
-}
-
-// A short option's second amount: the premium and the floor rate, of the price for a call, of the strike for a put.
-pub fn floor_amount<M: Market>(market: &M, size: ContractSize, right: Right, option: &Record) -> u64
-    ensures value { result ≡ floor_amount (M.Market.quote market.now) size.units right (terms option.now) }
-    ensures bound { result ≤ 10000000000000 }
-{
-    let base = match right {
-        Right::Call => market.price(),
-        Right::Put => option.strike_cents(),
-    };
-    let required = option.price_cents().parts() + market.floor_rate().of(base);
-    size.times(UnitAmount { parts: required })
-}
-
-// A short option: the greater of the two amounts, so never under its floor amount.
-pub fn short_option<M: Market>(market: &M, size: ContractSize, right: Right, option: &Record) -> u64
-    ensures value { pos result ≡ short_option (M.Market.quote market.now) size.units right (terms option.now) }
-    ensures floored { floor_amount (M.Market.quote market.now) size.units right (terms option.now) ≤ result }
-{
-    let first = before_floor(market, size, right, option);
-    let second = floor_amount(market, size, right, option) as i64;
-    first.max(second) as u64
-}
-
 // One unit of the underlying.
 pub fn units_alone<M: Market>(market: &M, side: Side) -> u64
     ensures { result ≡ units (M.Market.quote market.now) side }
@@ -119,36 +95,84 @@ pub fn units_alone<M: Market>(market: &M, side: Side) -> u64
     }
 }
 
-// Futures, of either side: the futures rate of the settlement, or all of it where there is no rate.
-pub fn futures_alone<M: Market>(market: &M, size: ContractSize, settlement: Cents) -> u64
-    ensures { result ≡ futures (M.Market.quote market.now) size.units settlement.amount }
-{
-    let required = match market.futures_rate() {
-        Some(rate) => rate.of(settlement),
-        None => settlement.parts(),
-    };
-    size.times(UnitAmount { parts: required })
-}
-
-// An option of either side.
-pub fn option_alone<M: Market>(market: &M, size: ContractSize, right: Right, option: &Record) -> u64
-    ensures { result ≡ option_alone (M.Market.quote market.now) size.units right (terms option.now) }
-{
-    match option.side {
-        Side::Long => long_option(market, size, right, option),
-        Side::Short => short_option(market, size, right, option),
+impl<M: Market> Contract<'_, M> {
+    // A long option: the time value that counts, and the lesser of the long requirement and the amount in the money.
+    pub fn long_option(&self, right: Right, option: &Record) -> u64
+        ensures { result ≡ long_option (M.Market.quote self.now.market.now) self.now.size.units right (terms option.now) }
+    {
+        let in_money = in_the_money(right, option.strike_cents(), self.market.price());
+        let time = counted_time_value(time_value(option.price_cents(), in_money), option.days);
+        let held = self.market.long_requirement().parts.min(in_money.parts());
+        self.size.times(UnitAmount { parts: time + held })
     }
-}
 
-// What one unit, or one contract, of a position requires alone.
-pub fn alone<M: Market>(market: &M, size: ContractSize, position: &Record) -> u64
-    ensures { result ≡ alone (M.Market.quote market.now) size.units (terms position.now) }
-{
-    match position.kind {
-        Kind::Units => units_alone(market, position.side),
-        Kind::Call => option_alone(market, size, Right::Call, position),
-        Kind::Put => option_alone(market, size, Right::Put, position),
-        Kind::Futures => futures_alone(market, size, position.price_cents()),
-        Kind::Receipt => 0,
+    // A short option's first amount: the premium and the option rate of the price, less the amount out of the money. It may be negative.
+    pub fn before_floor(&self, right: Right, option: &Record) -> i64
+        ensures { result ≡ before_floor (M.Market.quote self.now.market.now) self.now.size.units right (terms option.now) }
+    {
+        let price = self.market.price();
+        let out = out_of_the_money(right, option.strike_cents(), price);
+        let required = option.price_cents().parts() + self.market.option_rate().of(price);
+        self.size.difference(
+            UnitAmount { parts: required },
+            UnitAmount { parts: out.parts() },
+        )
+    }
+
+    // A short option's second amount: the premium and the floor rate, of the price for a call, of the strike for a put.
+    pub fn floor_amount(&self, right: Right, option: &Record) -> u64
+        ensures value { result ≡ floor_amount (M.Market.quote self.now.market.now) self.now.size.units right (terms option.now) }
+        ensures bound { result ≤ 10000000000000 }
+    {
+        let base = match right {
+            Right::Call => self.market.price(),
+            Right::Put => option.strike_cents(),
+        };
+        let required = option.price_cents().parts() + self.market.floor_rate().of(base);
+        self.size.times(UnitAmount { parts: required })
+    }
+
+    // A short option: the greater of the two amounts, so never under its floor amount.
+    pub fn short_option(&self, right: Right, option: &Record) -> u64
+        ensures value { pos result ≡ short_option (M.Market.quote self.now.market.now) self.now.size.units right (terms option.now) }
+        ensures floored { floor_amount (M.Market.quote self.now.market.now) self.now.size.units right (terms option.now) ≤ result }
+    {
+        let first = self.before_floor(right, option);
+        let second = self.floor_amount(right, option) as i64;
+        first.max(second) as u64
+    }
+
+    // Futures, of either side: the futures rate of the settlement, or all of it where there is no rate.
+    pub fn futures_alone(&self, settlement: Cents) -> u64
+        ensures { result ≡ futures (M.Market.quote self.now.market.now) self.now.size.units settlement.amount }
+    {
+        let required = match self.market.futures_rate() {
+            Some(rate) => rate.of(settlement),
+            None => settlement.parts(),
+        };
+        self.size.times(UnitAmount { parts: required })
+    }
+
+    // An option of either side.
+    pub fn option_alone(&self, right: Right, option: &Record) -> u64
+        ensures { result ≡ option_alone (M.Market.quote self.now.market.now) self.now.size.units right (terms option.now) }
+    {
+        match option.side {
+            Side::Long => self.long_option(right, option),
+            Side::Short => self.short_option(right, option),
+        }
+    }
+
+    // What one unit, or one contract, of a position requires alone.
+    pub fn alone(&self, position: &Record) -> u64
+        ensures { result ≡ alone (M.Market.quote self.now.market.now) self.now.size.units (terms position.now) }
+    {
+        match position.kind {
+            Kind::Units => units_alone(self.market, position.side),
+            Kind::Call => self.option_alone(Right::Call, position),
+            Kind::Put => self.option_alone(Right::Put, position),
+            Kind::Futures => self.futures_alone(position.price_cents()),
+            Kind::Receipt => 0,
+        }
     }
 }
