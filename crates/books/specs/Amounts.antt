@@ -1,24 +1,21 @@
 -- Lemmas: every amount is within the limits of a book.
 -- They stand here, and not in `proofs/`, since a ghost member of an implementation may cite nothing outside `specs/`; no contract speaks of them.
-use Rattle.std.specs.Prelude.{◌≡◌, ℕ, ◌+◌, ◌-◌, ◌*◌, ◌≤◌, min, max, Bool, true, false, cond, ℤ, pos, negsuc, ◌-ℤ◌, ◌*ℤ◌, Some, None, Option, nat_le}
-use Rattle.std.proofs.Common.{ap, ⊎_elim, arith}
+use Rattle.std.specs.Prelude.{ℕ, ◌+◌, ◌-◌, ◌*◌, ◌≤◌, min, max, Bool, cond, ℤ, pos, ◌-ℤ◌, ◌*ℤ◌, Option, nat_le}
+use Rattle.std.proofs.Common.{ap, arith}
 use Rattle.std.proofs.Math.Nat.{min-le_left, max-le}
 use Rattle.std.proofs.lemmas.Nat.{mul-le}
 use Rattle.std.proofs.lemmas.Int.{ints}
-use Rattle.std.proofs.lemmas.Bool.{cases_lt}
 use Rattle.amounts.specs.Differences.{times_difference}
 use Rattle.market.specs.Quote.{Quote, Limits, AtMost}
 use Rattle.positions.specs.declared.Side.{Side}
-use Rattle.positions.specs.declared.Side.TheVariants.{Long, Short}
 use Rattle.positions.specs.declared.Kind.{Kind}
-use Rattle.positions.specs.declared.Kind.TheVariants as kind
 use Rattle.positions.specs.declared.record.Record.{Record}
 use Rattle.positions.specs.Records.{Terms, terms}
 use Rattle.positions.specs.Bounds.{strike_high, price_high}
 use Rattle.pricing.specs.declared.Right.{Right}
 use Rattle.pricing.specs.declared.Right.TheVariants.{Call, Put}
 use Rattle.pricing.specs.Options.{in_the_money, time_value_of, long_option, before_floor, floor_base, floor_amount, out_of_the_money}
-use Rattle.pricing.specs.Alone.{positive_part, units, option_by_side, whole_or, by_kind, alone}
+use Rattle.pricing.specs.Alone.{positive_part, units, option_by_side, whole_or, futures, by_kind, alone}
 use Rattle.articles.specs.Sets.{short_alone, contract, spread_amount, straddle_amount, protective_put_amount, signed_contract, conversion_amount, reconversion_amount}
 
 -- what a record's range gives
@@ -37,28 +34,22 @@ bounded r = record {
 pub for_contract : (s x : ℕ) → s ≤ 1000 → x ≤ 10000000000 → s * x ≤ 10000000000000
 for_contract s x h k = mul-le s x 1000 10000000000 h k
 
-rated : (r c : ℕ) → r ≤ 10000 → c ≤ 500000 → r * c ≤ 5000000000
+pub rated : (r c : ℕ) → r ≤ 10000 → c ≤ 500000 → r * c ≤ 5000000000
 rated r c h k = mul-le r c 10000 500000 h k
 
 part_of_difference : (m k : ℕ) → positive_part (pos m -ℤ pos k) ≤ m
-part_of_difference m k =
-    ⊎_elim
-    (λ lt. let e : pos m -ℤ pos k ≡ negsuc (k - m - 1) = omega (arith, ints) in omega (arith, ap positive_part e))
-    (λ le. let e : pos m -ℤ pos k ≡ pos (m - k) = omega (arith, ints) in omega (arith, ap positive_part e))
-    (cases_lt m k)
+part_of_difference m k = grind (arith, ints)
 
 signed_limit : (s x y : ℕ) → s ≤ 1000 → x ≤ 10000000000 → positive_part (pos s *ℤ (pos x -ℤ pos y)) ≤ 10000000000000
 signed_limit s x y h k = omega (arith, ap positive_part (times_difference s x y), part_of_difference (s * x) (s * y), for_contract s x h k)
 
 chosen : (b : Bool) (x y : ℤ) (n : ℕ) → positive_part x ≤ n → positive_part y ≤ n → positive_part (cond b x y) ≤ n
-chosen true x y n h k = h
-chosen false x y n h k = k
+chosen b x y n h k = grind arith
 
 -- ---- a position alone
 
 counted : (b : Bool) (t : ℕ) → t ≤ 500000 → cond b (t * 5000) (t * 10000) ≤ 5000000000
-counted true t h = omega arith
-counted false t h = omega arith
+counted b t h = grind arith
 
 pub long_limit : (q : Quote) (s : ℕ) (r : Right) (t : Terms) → Limits q → s ≤ 1000 → Bounded t → long_option q s r t ≤ 10000000000000
 long_limit q s r t l h b =
@@ -68,8 +59,7 @@ long_limit q s r t l h b =
     for_contract s _ h (omega (arith, part, held, l.long_high, l.price_high))
 
 base_limit : (q : Quote) (r : Right) (t : Terms) → Limits q → Bounded t → floor_base q r t ≤ 500000
-base_limit q Call t l b = l.price_high
-base_limit q Put t l b = b.strike_high
+base_limit q r t l b = grind (arith, l.price_high, b.strike_high)
 
 pub short_limit : (q : Quote) (s : ℕ) (r : Right) (t : Terms) → Limits q → s ≤ 1000 → Bounded t → short_alone q s r t ≤ 10000000000000
 short_limit q s r t l h b =
@@ -78,23 +68,18 @@ short_limit q s r t l h b =
     (for_contract s (t.price * 10000 + q.floor * floor_base q r t) h (omega (arith, b.price_high, rated q.floor (floor_base q r t) l.floor_high (base_limit q r t l b))))
 
 option_limit : (q : Quote) (s : ℕ) (r : Right) (t : Terms) (side : Side) → Limits q → s ≤ 1000 → Bounded t → option_by_side q s r t side ≤ 10000000000000
-option_limit q s r t Long l h b = long_limit q s r t l h b
-option_limit q s r t Short l h b = short_limit q s r t l h b
+option_limit q s r t side l h b = grind (arith, long_limit q s r t l h b, short_limit q s r t l h b)
 
 pub unit_limit : (q : Quote) (side : Side) → Limits q → units q side ≤ 10000000000
-unit_limit q Long l = omega (arith, l.long_high, l.price_high)
-unit_limit q Short l = l.short_high
+unit_limit q side l = grind (arith, l.long_high, l.price_high, l.short_high)
 
 whole_limit : (o : Option ℕ) → AtMost 10000 o → whole_or o ≤ 10000
-whole_limit None h = omega arith
-whole_limit (Some n) h = h
+whole_limit o h = grind arith
 
 kind_limit : (q : Quote) (s : ℕ) (t : Terms) (k : Kind) → Limits q → s ≤ 1000 → Bounded t → by_kind q s t k ≤ 10000000000000
-kind_limit q s t kind.Units l h b = omega (arith, unit_limit q t.side l)
-kind_limit q s t kind.Call l h b = option_limit q s Call t t.side l h b
-kind_limit q s t kind.Put l h b = option_limit q s Put t t.side l h b
-kind_limit q s t kind.Futures l h b = for_contract s _ h (omega (arith, rated (whole_or q.futures) t.price (whole_limit q.futures l.futures_high) b.price_high))
-kind_limit q s t kind.Receipt l h b = omega arith
+kind_limit q s t k l h b =
+    let future : futures q s t.price ≤ 10000000000000 = for_contract s _ h (omega (arith, rated (whole_or q.futures) t.price (whole_limit q.futures l.futures_high) b.price_high)) in
+    grind (arith, unit_limit q t.side l, option_limit q s Call t t.side l h b, option_limit q s Put t t.side l h b, future)
 
 pub alone_limit : (q : Quote) (s : ℕ) (t : Terms) → Limits q → s ≤ 1000 → Bounded t → alone q s t ≤ 10000000000000
 alone_limit q s t l h b = kind_limit q s t t.kind l h b

@@ -3,8 +3,6 @@
 use Rattle.std.specs.Prelude.{◌≡◌, ℕ, ◌*◌, ◌≤◌, List, [], ◌∷◌, map, Some, None, Ok, Err, Option, Result}
 use Rattle.std.proofs.Common.{ap, arith}
 use Rattle.std.specs.Result.{result_map_both}
-use Rattle.std.proofs.lemmas.Nat.{mul-le}
-use Rattle.market.specs.declared.MarketFault.TheVariants.{NoTracking}
 use Rattle.market.specs.Quote.{Quote, Limits, AtMost, needed}
 use Rattle.positions.specs.declared.Side.{Side}
 use Rattle.positions.specs.declared.Side.TheVariants.{Long, Short}
@@ -16,10 +14,9 @@ use Rattle.pricing.specs.declared.Right.{Right}
 use Rattle.pricing.specs.declared.Right.TheVariants as right
 use Rattle.pricing.specs.Alone.{by_kind, alone}
 use Rattle.articles.specs.declared.Article.{Article}
-use Rattle.articles.specs.declared.Article.TheVariants.{CallSpread, PutSpread, Straddle, ProtectivePut, Conversion, Reconversion, ReceiptCall}
 use Rattle.articles.specs.declared.Leg.TheVariants.{First, Second, Third}
 use Rattle.articles.specs.declared.ArticleFault.{ArticleFault}
-use Rattle.articles.specs.declared.ArticleFault.TheVariants.{WrongLeg, WrongDays, Market}
+use Rattle.articles.specs.declared.ArticleFault.TheVariants.{WrongLeg}
 use Rattle.articles.specs.Conditions.{leg_is, not_later, same_days, tracked_at, and_then}
 use Rattle.pricing.specs.Kinds.{kind_of_right}
 use Rattle.articles.specs.Articles.{spread, straddle, protective_put, aligned, conversion, reconversion, receipt_call}
@@ -33,14 +30,12 @@ use Rattle.market.specs.Limits.{share_limits, currency_limits}
 use Rattle.books.specs.declared.sheets.Sheet.{Sheet}
 use Rattle.books.specs.declared.sheets.Sheet.TheVariants as sheet
 use Rattle.books.specs.Books.{raised, share_article, currency_article, tables_over, share_tables, currency_tables, sheet_tables}
-use Rattle.books.specs.Amounts.{Bounded, bounded, unit_limit, alone_limit, spread_limit, straddle_limit, protective_limit, conversion_limit, reconversion_limit}
+use Rattle.books.specs.Amounts.{Bounded, bounded, rated, unit_limit, alone_limit, spread_limit, straddle_limit, protective_limit, conversion_limit, reconversion_limit}
 
 -- ---- causes
 
 raised_within : (f : ArticleFault) → Within (Err (raised f))
-raised_within (WrongLeg leg) = (omega arith, omega arith)
-raised_within (WrongDays leg) = (omega arith, omega arith)
-raised_within (Market NoTracking) = (omega arith, omega arith)
+raised_within f = grind arith
 
 -- ---- what comes after conditions
 
@@ -83,8 +78,8 @@ receipt_kept a b =
 
 -- the tracked amount of a unit is at most the whole price
 tracked_at_lem : (p : ℕ) (o : Option ℕ) (n : ℕ) → p ≤ 500000 → AtMost 10000 o → tracked_at p (needed o) ≡ Ok n → n ≤ 5000000000
-tracked_at_lem p None n h k e = let z : ◌≡◌ {A = ℕ} 0 1 = cc in absurd (omega arith)
-tracked_at_lem p (Some r) n h k e = let same : n ≡ r * p = cc in omega (arith, same, mul-le r p 10000 500000 k h)
+tracked_at_lem p None n h k e = grind arith
+tracked_at_lem p (Some r) n h k e = let same : n ≡ r * p = cc in omega (arith, same, rated r p k h)
 
 passes : {A B : Type 0} (r : Result A ArticleFault) (next : A → Result B ArticleFault) (x : B) (P : Type 0) → and_then r next ≡ Ok x → ((y : A) → next y ≡ Ok x → P) → P
 passes (Ok y) next x P e f = f y e
@@ -107,22 +102,21 @@ reconversion_kept q s a b c l h p r =
     after (aligned q Short a b c) _ (λ n e. reconversion_limit s n a b c h (aligned_limit q Short a b c n l e) p r)
 
 two_kept : (q : Quote) (s : ℕ) (article : Article) (a b : Terms) → Limits q → s ≤ 1000 → Bounded a → Bounded b → Kept (of_two q s article a b)
-two_kept q s CallSpread a b l h p r = spread_kept q s right.Call a b l h r
-two_kept q s PutSpread a b l h p r = spread_kept q s right.Put a b l h r
-two_kept q s Straddle a b l h p r = straddle_kept q s a b l h p r
-two_kept q s ProtectivePut a b l h p r = protective_kept q s a b l h
-two_kept q s Conversion a b l h p r = refused (WrongLeg Third)
-two_kept q s Reconversion a b l h p r = refused (WrongLeg Third)
-two_kept q s ReceiptCall a b l h p r = receipt_kept a b
+two_kept q s article a b l h p r =
+    let third = refused (WrongLeg Third) in
+    let calls = spread_kept q s right.Call a b l h r in
+    let puts = spread_kept q s right.Put a b l h r in
+    let straddled = straddle_kept q s a b l h p r in
+    let protected = protective_kept q s a b l h in
+    let received = receipt_kept a b in
+    grind arith
 
 three_kept : (q : Quote) (s : ℕ) (article : Article) (a b c : Terms) → Limits q → s ≤ 1000 → Bounded a → Bounded b → Bounded c → Kept (of_three q s article a b c)
-three_kept q s CallSpread a b c l h i j k = refused (WrongLeg Third)
-three_kept q s PutSpread a b c l h i j k = refused (WrongLeg Third)
-three_kept q s Straddle a b c l h i j k = refused (WrongLeg Third)
-three_kept q s ProtectivePut a b c l h i j k = refused (WrongLeg Third)
-three_kept q s Conversion a b c l h i j k = conversion_kept q s a b c l h i k
-three_kept q s Reconversion a b c l h i j k = reconversion_kept q s a b c l h i j
-three_kept q s ReceiptCall a b c l h i j k = refused (WrongLeg Third)
+three_kept q s article a b c l h i j k =
+    let third = refused (WrongLeg Third) in
+    let converted = conversion_kept q s a b c l h i k in
+    let reconverted = reconversion_kept q s a b c l h i j in
+    grind arith
 
 set_kept : (q : Quote) (s : ℕ) (article : Article) (legs : List Record) → Limits q → s ≤ 1000 → Kept (requirement_of q s article (map terms legs))
 set_kept q s article [] l h = refused (WrongLeg First)
@@ -134,22 +128,10 @@ set_kept q s article (a ∷ b ∷ c ∷ d ∷ more) l h = refused (WrongLeg Thir
 -- ---- the book
 
 two_at_least : (article : Article) → 2 ≤ legs_of article
-two_at_least CallSpread = omega arith
-two_at_least PutSpread = omega arith
-two_at_least Straddle = omega arith
-two_at_least ProtectivePut = omega arith
-two_at_least Conversion = omega arith
-two_at_least Reconversion = omega arith
-two_at_least ReceiptCall = omega arith
+two_at_least article = grind arith
 
 three_at_most : (article : Article) → legs_of article ≤ 3
-three_at_most CallSpread = omega arith
-three_at_most PutSpread = omega arith
-three_at_most Straddle = omega arith
-three_at_most ProtectivePut = omega arith
-three_at_most Conversion = omega arith
-three_at_most Reconversion = omega arith
-three_at_most ReceiptCall = omega arith
+three_at_most article = grind arith
 
 unit_alone : (q : Quote) (s : ℕ) (t : Terms) → Limits q → t.kind ≡ Units → alone q s t ≤ 10000000000
 unit_alone q s t l e = omega (arith, ap (by_kind q s t) e, unit_limit q t.side l)

@@ -1,14 +1,14 @@
 // The share book and the currency book, and one enum of their two sheets that is a book too.
-ghost use Rattle.std.specs.Prelude.{◌≡◌};
-ghost use Rattle.market.specs.Share.{share_quote, shares_on};
-ghost use Rattle.market.specs.Currency.{currency_quote, currency_on};
-ghost use Rattle.books.specs.Books.{share_article, currency_article, share_tables, currency_tables, sheet_tables, raised};
-ghost use Rattle.books.specs.Lawful.{share_lawful, currency_lawful, sheet_lawful};
+ghost use Rattle.std.specs.Prelude.{◌≡◌, ℕ, ◌+◌, ◌<◌, ◌≤◌, length, slice_index_or};
+ghost use Rattle.std.proofs.Common.{arith};
+ghost use Rattle.articles.specs.declared.Article.{Article};
+ghost use Rattle.books.specs.Books.{share_article, currency_article, tables_over, sheet_tables, raised};
+ghost use Rattle.books.specs.Lawful.{lawful_over, sheet_lawful};
 
 use crate::{Book, BookFault};
 use amounts::ContractSize;
 use articles::{Article, ArticleFault, set_requirement};
-use market::{CurrencySheet, ShareSheet};
+use market::{CurrencySheet, Market, ShareSheet};
 use positions::Record;
 use pricing::Contract;
 
@@ -26,44 +26,39 @@ impl From<ArticleFault> for BookFault {
     }
 }
 
-// The articles of the share book, 1 to 6.
-fn share_article(number: u8) -> Article
-    ensures { result ≡ share_article number }
-{
-    match number {
-        1 => Article::CallSpread,
-        2 => Article::PutSpread,
-        3 => Article::Straddle,
-        4 => Article::ProtectivePut,
-        5 => Article::Conversion,
-        _ => Article::Reconversion,
-    }
+// A market whose book is a list of articles, numbered from 1.
+pub trait Listed: Market {
+    ghost count: { ℕ };
+
+    ghost numbered: { ℕ → Article };
+
+    // The articles in the order of their numbers.
+    fn listed(&self) -> &'static [Article]
+        ensures count { length result.now ≡ count }
+        ensures order { (k : ℕ) → k < count → slice_index_or result.now k (numbered (k + 1)) ≡ numbered (k + 1) };
+
+    ghost few: { (1 ≤ count) × (count ≤ 16) };
 }
 
-// The articles of the currency book, 1 to 5.
-fn currency_article(number: u8) -> Article
-    ensures { result ≡ currency_article number }
+// The article of a number that the book has.
+fn article_of<M: Listed>(market: &M, number: u8) -> Article
+    requires { (1 ≤ number) × (number ≤ M.count) }
+    ensures { result ≡ M.numbered number }
 {
-    match number {
-        1 => Article::CallSpread,
-        2 => Article::PutSpread,
-        3 => Article::Straddle,
-        4 => Article::ProtectivePut,
-        _ => Article::ReceiptCall,
-    }
+    market.listed()[number as usize - 1]
 }
 
-impl Book for ShareSheet {
-    ghost tables = { λ s. share_tables (share_quote (shares_on s)) };
+impl<M: Listed> Book for M {
+    ghost tables = { λ m. tables_over M.count M.numbered (M.Market.quote m) };
 
-    ghost lawful = { share_lawful };
+    ghost lawful = { λ m. lawful_over M.count M.numbered (M.Market.quote m) M.few.0 M.few.1 (M.Market.limits m) };
 
     fn articles(&self) -> u8 {
-        6
+        self.listed().len() as u8
     }
 
     fn legs(&self, article: u8) -> u8 {
-        share_article(article).legs()
+        article_of(self, article).legs()
     }
 
     fn alone(&self, size: ContractSize, position: &Record) -> u64 {
@@ -73,35 +68,46 @@ impl Book for ShareSheet {
     fn paired(&self, size: ContractSize, article: u8, legs: &[Record]) -> Result<u64, BookFault> {
         Ok(set_requirement(
             &Contract { market: self, size },
-            share_article(article),
+            article_of(self, article),
             legs,
         )?)
     }
 }
 
-impl Book for CurrencySheet {
-    ghost tables = { λ c. currency_tables (currency_quote (currency_on c)) };
+impl Listed for ShareSheet {
+    ghost count = { 6 };
 
-    ghost lawful = { currency_lawful };
+    ghost numbered = { share_article };
 
-    fn articles(&self) -> u8 {
-        5
+    ghost few = { Prim.omega arith };
+
+    fn listed(&self) -> &'static [Article] {
+        &[
+            Article::CallSpread,
+            Article::PutSpread,
+            Article::Straddle,
+            Article::ProtectivePut,
+            Article::Conversion,
+            Article::Reconversion,
+        ]
     }
+}
 
-    fn legs(&self, article: u8) -> u8 {
-        currency_article(article).legs()
-    }
+impl Listed for CurrencySheet {
+    ghost count = { 5 };
 
-    fn alone(&self, size: ContractSize, position: &Record) -> u64 {
-        Contract { market: self, size }.alone(position)
-    }
+    ghost numbered = { currency_article };
 
-    fn paired(&self, size: ContractSize, article: u8, legs: &[Record]) -> Result<u64, BookFault> {
-        Ok(set_requirement(
-            &Contract { market: self, size },
-            currency_article(article),
-            legs,
-        )?)
+    ghost few = { Prim.omega arith };
+
+    fn listed(&self) -> &'static [Article] {
+        &[
+            Article::CallSpread,
+            Article::PutSpread,
+            Article::Straddle,
+            Article::ProtectivePut,
+            Article::ReceiptCall,
+        ]
     }
 }
 
