@@ -1,60 +1,28 @@
 -- The search finds the first breach.
-use Rattle.std.proofs.Common.{◌≡◌, ℕ, zero, suc, ◌+◌, ◌<◌, ◌≤◌, Bool, true, false, eqb, ◌⊎◌, List, [], ◌∷◌, length, ℤ, pos, ◌<ℤ◌, Some, None, Ok, Err, Option, Result, sym, refl, ap, ◌∙◌, subst, inl, inr, ⊎_elim, arith}
+use Rattle.std.proofs.Common.{◌≡◌, ℕ, ◌<◌, ◌≤◌, Bool, true, false, eqb, ◌⊎◌, List, length, ℤ, pos, ◌<ℤ◌, Some, None, Ok, Err, Option, Result, sym, refl, ap, ◌∙◌, subst, inl, inr, ⊎_elim, arith}
+use Rattle.std.specs.Bool.{then_some}
 use lib.Signed.{lt_z}
 use Rattle.std.proofs.lemmas.Int.{ints}
 use Rattle.std.proofs.lemmas.Bool.{cases_eq, cases_lt, cases_order, eq-eqb, ne_eqb, cond-true, cond-false, and_parts, and_from}
 use Rattle.positions.specs.declared.record.Record.{Record}
 use Rattle.books.specs.declared.BookFault.{BookFault}
 use Rattle.books.specs.Tables.{Tables, Lawful, Has}
-use Rattle.pairing.specs.Pairing.{Position, Positions, Set, distinct, answer, amount, requirement, Allowed, worth}
+use Rattle.pairing.specs.Pairing.{Position, Positions, distinct, answer, amount, requirement, worth}
 use Rattle.breaches.specs.declared.Breach.{Breach}
-use Rattle.breaches.specs.Search.{or_else, first_of, when, above, unfair, two, three, breach_at, alone_breach, set_breach, two_breach, three_breach, third_of_three, third_leg, second_leg, first_leg, first_alone, first_article}
-use Rattle.breaches.proofs.Firsts.{none_found}
-use Rattle.breaches.specs.First.{legs_in, set_in, AloneBreach, SetBreach, NotAfter, First, SearchFindsFirst}
-
-never : {X : Type 0} (x : X) {Y : Type 0} → ◌≡◌ {A = Option X} (Some x) None → Y
-never x e = let z : ◌≡◌ {A = ℕ} 0 1 = cc in absurd (let w : ⊥ = omega arith in w)
-
--- ---- where a search finds
-
-record Hit {X : Type 0} (f : ℕ → Option X) (i k : ℕ) (b : X) : Type 0 where
-  place : ℕ
-  low : i ≤ place
-  high : place < i + k
-  is : f place ≡ Some b
-  before : (q : ℕ) → i ≤ q → q < place → f q ≡ None
-
-found_at : {X : Type 0} (f : ℕ → Option X) (i k : ℕ) (b : X) (o : Option X) → f i ≡ o → or_else o (first_of f (i + 1) k) ≡ Some b → (first_of f (i + 1) k ≡ Some b → Hit f (i + 1) k b) → Hit f i (suc k) b
-found_at f i k b (Some x) e h rest = record { place = i; low = omega arith; high = omega arith; is = e ∙ h; before = λ q l u. absurd (let w : ⊥ = omega arith in w) }
-found_at f i k b None e h rest =
-    let r = rest h in
-    let lo = r.low in
-    let hi = r.high in
-    record {
-      place = r.place;
-      low = omega arith;
-      high = omega arith;
-      is = r.is;
-      before = λ q l u. ⊎_elim (λ z. ap f z ∙ e) (λ d. r.before q (omega arith) u) (cases_eq q i);
-    }
-
-found : {X : Type 0} (f : ℕ → Option X) (i k : ℕ) (b : X) → first_of f i k ≡ Some b → Hit f i k b
-found f i zero b h = never b (sym h)
-found f i (suc k) b h = found_at f i k b (f i) refl h (found f (i + 1) k b)
-
-either : {X : Type 0} (r o : Option X) (b : X) → or_else r o ≡ Some b → (r ≡ Some b) ⊎ ((r ≡ None) × (o ≡ Some b))
-either (Some x) o b h = inl h
-either None o b h = inr (refl, h)
+use Rattle.breaches.specs.declared.Breach.TheVariants as breach
+use Rattle.breaches.specs.Search.{above, unfair, legs_at, set_at, alone_breach, set_breach, third_of_three, third_leg, second_leg, first_leg, first_alone, first_article, first_breach}
+use Rattle.breaches.proofs.Firsts.{Hit, found, none_found, or_none, or_some}
+use Rattle.breaches.specs.First.{AloneBreach, SetBreach, Breaks, LegNotAfter, NotAfter, First, SearchFindsFirst}
 
 -- ---- one test
 
-when_some : (c : Bool) (x b : Breach) → when c x ≡ Some b → (c ≡ true) × (x ≡ b)
-when_some true x b h = (refl, cc)
-when_some false x b h = never b (sym h)
+then_some_is : {X : Type 0} (c : Bool) (x b : X) → then_some c x ≡ Some b → (c ≡ true) × (x ≡ b)
+then_some_is true x b h = (refl, cc)
+then_some_is false x b h = absurd (let w : ⊥ = cc in w)
 
-some_when : (c : Bool) (x : Breach) {Y : Type 0} → c ≡ true → when c x ≡ None → Y
-some_when true x e h = never x h
-some_when false x e h = let z : ◌≡◌ {A = ℕ} 0 1 = cc in absurd (let w : ⊥ = omega arith in w)
+then_some_none : {X : Type 0} (c : Bool) (x : X) → c ≡ true → then_some c x ≡ None → ⊥
+then_some_none true x e h = cc
+then_some_none false x e h = cc
 
 over_from : (n : ℕ) (m : ℤ) → lt_z (pos n) m ≡ true → pos n <ℤ m
 over_from n m h = grind (arith, ints)
@@ -64,202 +32,161 @@ from_over n m h = grind (arith, ints)
 
 by_answer : (r : Result ℕ BookFault) (m : ℤ) → above r m ≡ true → (r ≡ Ok (amount r)) × (pos (amount r) <ℤ m)
 by_answer (Ok n) m h = (refl, over_from n m h)
-by_answer (Err f) m h = let z : ◌≡◌ {A = ℕ} 0 1 = cc in absurd (let w : ⊥ = omega arith in w)
+by_answer (Err f) m h = absurd (let w : ⊥ = cc in w)
+
+-- the place of what is found is not after any other where f answers
+order : {X R : Type 0} {f : ℕ → Option X} {n : ℕ} {b : X} (h : Hit f 1 n b) (y : ℕ) → 1 ≤ y → (f y ≡ None → ⊥) → (h.place ≡ y → R) → (h.place < y) ⊎ ((h.place ≡ y) × R)
+order h y low some same =
+    ⊎_elim
+    (λ e. inr (e, same e))
+    (λ r. ⊎_elim inl (λ g. absurd (some (h.before y low g))) r)
+    (cases_order h.place y)
 
 module _ (t : Tables) (law : Lawful t) (s : ℕ) (held : List Record) (ms : List ℤ) where
-  -- ---- what is found breaks
+  -- ---- a position alone, and a set
 
-  set_breaks : (x : Set) (y b : Breach) → Has t x.article → length x.legs ≡ t.legs x.article → Positions held x.legs → x ≡ set_in y → set_breach t s held ms x y ≡ Some b → (y ≡ b) × SetBreach t s held ms b
-  set_breaks x y b has legs ps same h =
-      let w = when_some _ y b h in
+  alone_some : (p : ℕ) (b : Breach) → Position held p → alone_breach t s held ms p ≡ Some b → (breach.Alone p ≡ b) × AloneBreach t s held ms p
+  alone_some p b at_p h =
+      let w = then_some_is _ (breach.Alone p) b h in
+      (w.1, record { position = at_p; over = over_from _ _ w.0 })
+
+  alone_none : (p : ℕ) → AloneBreach t s held ms p → alone_breach t s held ms p ≡ None → ⊥
+  alone_none p h e = then_some_none _ (breach.Alone p) (from_over _ _ h.over) e
+
+  set_some : (a i j : ℕ) (k : Option ℕ) (b : Breach) → Has t a → length (legs_at i j k) ≡ t.legs a → Positions held (legs_at i j k) → set_breach t s held ms a i j k ≡ Some b → (breach.Set a i j k ≡ b) × SetBreach t s held ms (set_at a i j k)
+  set_some a i j k b has legs ps h =
+      let x = set_at a i j k in
+      let w = then_some_is _ (breach.Set a i j k) b h in
       let parts = and_parts (distinct x.legs) (unfair t s held ms x) w.0 in
       let asked = by_answer (answer t s held x) (worth s held ms x.legs) parts.1 in
-      let is : x ≡ set_in b = same ∙ ap set_in w.1 in
-      let allowed : Allowed t s held x = record { article = has; legs = legs; positions = ps; apart = parts.0; granted = asked.0 } in (
-        w.1,
-        record {
-          allowed = subst (Allowed t s held) is allowed;
-          over = subst (λ (z : Set). pos (requirement t s held z) <ℤ worth s held ms z.legs) is asked.1;
-        },
-      )
+      (w.1, record { allowed = record { article = has; legs = legs; positions = ps; apart = parts.0; granted = asked.0 }; over = asked.1 })
 
-  set_found : (x : Set) (y : Breach) {Y : Type 0} → Allowed t s held x → pos (requirement t s held x) <ℤ worth s held ms x.legs → set_breach t s held ms x y ≡ None → Y
-  set_found x y a o h =
-      some_when _ y
-      (and_from (distinct x.legs) (unfair t s held ms x) a.apart
-      (ap (λ (r : Result ℕ BookFault). above r (worth s held ms x.legs)) a.granted ∙ from_over (requirement t s held x) (worth s held ms x.legs) o))
-      h
+  set_none : (a i j : ℕ) (k : Option ℕ) → SetBreach t s held ms (set_at a i j k) → set_breach t s held ms a i j k ≡ None → ⊥
+  set_none a i j k h e =
+      let x = set_at a i j k in
+      let allowed = h.allowed in
+      then_some_none _ (breach.Set a i j k)
+      (and_from (distinct x.legs) (unfair t s held ms x) allowed.apart
+      (ap (λ r. above r (worth s held ms x.legs)) allowed.granted ∙ from_over (requirement t s held x) (worth s held ms x.legs) h.over))
+      e
 
-  -- ---- a breach is found at its legs
+  two_legs : (a i j : ℕ) → t.legs a ≡ 2 → third_leg t s held ms a i j ≡ set_breach t s held ms a i j None
+  two_legs a i j e = cond-true (eqb (t.legs a) 2) _ _ (eq-eqb (t.legs a) 2 e)
 
-  legs_two : (c : Breach) → c.third ≡ 0 → legs_in c ≡ c.first ∷ c.second ∷ []
-  legs_two c e = cond-true (eqb c.third 0) _ (c.first ∷ c.second ∷ c.third ∷ []) (eq-eqb c.third 0 e)
+  three_legs : (a i j : ℕ) → t.legs a ≡ 3 → third_leg t s held ms a i j ≡ third_of_three t s held ms a i j
+  three_legs a i j e = cond-false (eqb (t.legs a) 2) _ _ (ne_eqb (t.legs a) 2 (λ z. omega arith))
 
-  legs_three : (c : Breach) → (c.third ≡ 0 → ⊥) → legs_in c ≡ c.first ∷ c.second ∷ c.third ∷ []
-  legs_three c e = cond-false (eqb c.third 0) (c.first ∷ c.second ∷ []) _ (ne_eqb c.third 0 e)
+  -- ---- a breach is not passed over
 
-  abbrev Over : Set → Type 0
-  Over x = pos (requirement t s held x) <ℤ worth s held ms x.legs
-
-  -- what a breach of a set is: its legs are positions, nothing less than it is found with its first two legs, and a third is at its place
-  record At (c : Breach) : Type 0 where
-    has : Has t c.article
-    one : Position held c.first
-    other : Position held c.second
-    some : third_leg t s held ms c.article c.first c.second ≡ None → ⊥
-    last : t.legs c.article ≡ 3 → (1 ≤ c.third) × (c.third ≤ length held) × (three_breach t s held ms c.article c.first c.second c.third ≡ None → ⊥)
-
-  at_two : (c : Breach) → Allowed t s held (two c.article c.first c.second) → Over (two c.article c.first c.second) → At c
-  at_two c a o =
-      let ps = a.positions in
-      let n = a.legs in
-      record {
-        has = a.article;
-        one = ps.0;
-        other = ps.1.0;
-        some = λ e. set_found (two c.article c.first c.second) (breach_at c.article c.first c.second 0) a o
-            (sym (cond-true (eqb (t.legs c.article) 2) (two_breach t s held ms c.article c.first c.second) (third_of_three t s held ms c.article c.first c.second) (eq-eqb (t.legs c.article) 2 (sym n))) ∙ e);
-        last = λ k. absurd (let w : ⊥ = omega arith in w);
-      }
-
-  at_three : (c : Breach) → Allowed t s held (three c.article c.first c.second c.third) → Over (three c.article c.first c.second c.third) → At c
-  at_three c a o =
-      let ps = a.positions in
-      let n = a.legs in
+  third_none : (a i j : ℕ) (k : Option ℕ) → SetBreach t s held ms (set_at a i j k) → third_leg t s held ms a i j ≡ None → ⊥
+  third_none a i j None h e = let allowed = h.allowed in set_none a i j None h (sym (two_legs a i j (sym allowed.legs)) ∙ e)
+  third_none a i j (Some k) h e =
+      let allowed = h.allowed in
+      let ps = allowed.positions in
       let p = ps.1.1.0 in
-      let x = three c.article c.first c.second c.third in
-      let y = breach_at c.article c.first c.second c.third in
-      record {
-        has = a.article;
-        one = ps.0;
-        other = ps.1.0;
-        some = λ e. set_found x y a o
-            (none_found (three_breach t s held ms c.article c.first c.second) 1 (length held)
-            (sym (cond-false (eqb (t.legs c.article) 2) (two_breach t s held ms c.article c.first c.second) (third_of_three t s held ms c.article c.first c.second) (ne_eqb (t.legs c.article) 2 (λ z. omega arith))) ∙ e)
-            c.third p.0 (omega arith));
-        last = λ k. (p.0, p.1, λ e. set_found x y a o e);
-      }
+      set_none a i j (Some k) h
+      (none_found (λ q. set_breach t s held ms a i j (Some q)) 1 (length held) (sym (three_legs a i j (sym allowed.legs)) ∙ e) k p.0 (omega arith))
 
-  placed : (c : Breach) → SetBreach t s held ms c → At c
-  placed c h =
-      ⊎_elim
-      (λ z.
-      let same : set_in c ≡ two c.article c.first c.second = ap (λ (qs : List ℕ). record { article = c.article; legs = qs }) (legs_two c z) in
-      at_two c (subst (Allowed t s held) same h.allowed) (subst Over same h.over))
-      (λ z.
-      let same : set_in c ≡ three c.article c.first c.second c.third = ap (λ (qs : List ℕ). record { article = c.article; legs = qs }) (legs_three c z) in
-      at_three c (subst (Allowed t s held) same h.allowed) (subst Over same h.over))
-      (cases_eq c.third 0)
+  one_held : (a i j : ℕ) (k : Option ℕ) → SetBreach t s held ms (set_at a i j k) → Position held i × Position held j
+  one_held a i j None h = let allowed = h.allowed in let ps = allowed.positions in (ps.0, ps.1.0)
+  one_held a i j (Some k) h = let allowed = h.allowed in let ps = allowed.positions in (ps.0, ps.1.0)
 
-  alone_found : (c : Breach) → AloneBreach t s held ms c → alone_breach t s held ms c.first ≡ None → ⊥
-  alone_found c h e = some_when _ (breach_at 0 c.first 0 0) (from_over _ _ h.over) e
+  second_none : (a i j : ℕ) (k : Option ℕ) → SetBreach t s held ms (set_at a i j k) → second_leg t s held ms a i ≡ None → ⊥
+  second_none a i j k h e =
+      let p = (one_held a i j k h).1 in
+      third_none a i j k h (none_found (third_leg t s held ms a i) 1 (length held) e j p.0 (omega arith))
+
+  first_none : (a i j : ℕ) (k : Option ℕ) → SetBreach t s held ms (set_at a i j k) → first_leg t s held ms a ≡ None → ⊥
+  first_none a i j k h e =
+      let p = (one_held a i j k h).0 in
+      second_none a i j k h (none_found (second_leg t s held ms a) 1 (length held) e i p.0 (omega arith))
+
+  alone_passed : (p : ℕ) → AloneBreach t s held ms p → first_alone t s held ms ≡ None → ⊥
+  alone_passed p h e = let q = h.position in alone_none p h (none_found (alone_breach t s held ms) 1 (length held) e p q.0 (omega arith))
+
+  pub none_breaks : first_breach t s held ms ≡ None → (c : Breach) → Breaks t s held ms c → ⊥
+  none_breaks e (breach.Alone p) h = alone_passed p h (or_none _ _ e).0
+  none_breaks e (breach.Set a i j k) h =
+      let allowed = h.allowed in
+      let has = allowed.article in
+      first_none a i j k h (none_found (first_leg t s held ms) 1 t.articles (or_none _ _ e).1 a has.0 (omega arith))
 
   -- ---- found alone
+
+  alone_order : (b : Breach) (h : Hit (alone_breach t s held ms) 1 (length held) b) (c : Breach) → Breaks t s held ms c → NotAfter (breach.Alone h.place) c
+  alone_order b h (breach.Alone q) k = ⊎_elim (λ l. let p = k.position in absurd (alone_none q k (h.before q p.0 l))) (λ l. l) (cases_lt q h.place)
+  alone_order b h (breach.Set a i j n) k = tt
 
   alone_first : (b : Breach) → first_alone t s held ms ≡ Some b → First t s held ms b
   alone_first b e =
       let h = found (alone_breach t s held ms) 1 (length held) b e in
-      let p = h.place in
-      let low = h.low in
       let high = h.high in
-      let w = when_some _ (breach_at 0 p 0 0) b h.is in
-      record {
-        breaks = inl (subst (AloneBreach t s held ms) w.1 (record { no_article = refl; position = (low, omega arith); no_second = refl; no_third = refl; over = over_from _ _ w.0 }));
-        first = λ c k. subst (λ (z : Breach). NotAfter z c) w.1
-            (⊎_elim
-            (λ l.
-            ⊎_elim
-            (λ z. inr (sym l.no_article, inr (z, inr (sym l.no_second, omega arith))))
-            (λ r. ⊎_elim
-            (λ z. inr (sym l.no_article, inl z))
-            (λ z. absurd (alone_found c l (h.before c.first l.position.0 z)))
-            r)
-            (cases_order p c.first))
-            (λ l. let has = l.allowed.article in inl has.0)
-            k);
-      }
+      let w = alone_some h.place b (h.low, omega arith) h.is in
+      subst (First t s held ms) w.0 (record { breaks = w.1; first = alone_order b h })
 
   -- ---- found in an article
 
-  module _ (a i j k : ℕ) (in-a : (q : ℕ) → 1 ≤ q → q < a → first_leg t s held ms q ≡ None) (in-i : (q : ℕ) → 1 ≤ q → q < i → second_leg t s held ms a q ≡ None) (in-j : (q : ℕ) → 1 ≤ q → q < j → third_leg t s held ms a i q ≡ None) (in-k : (c : Breach) → At c → c.article ≡ a → c.first ≡ i → c.second ≡ j → k ≤ c.third) where
-    none_two : (c : Breach) → At c → second_leg t s held ms c.article c.first ≡ None → ⊥
-    none_two c h e = let p = h.other in h.some (none_found (third_leg t s held ms c.article c.first) 1 (length held) e c.second p.0 (omega arith))
+  module _ (b : Breach) (none : first_alone t s held ms ≡ None) (ha : Hit (first_leg t s held ms) 1 t.articles b) (hi : Hit (second_leg t s held ms ha.place) 1 (length held) b) (hj : Hit (third_leg t s held ms ha.place hi.place) 1 (length held) b) where
+    set_order : (k : Option ℕ) → ((n : Option ℕ) → SetBreach t s held ms (set_at ha.place hi.place hj.place n) → LegNotAfter k n) → (c : Breach) → Breaks t s held ms c → NotAfter (breach.Set ha.place hi.place hj.place k) c
+    set_order k last (breach.Alone q) h = alone_passed q h none
+    set_order k last (breach.Set d l m n) h =
+        let allowed = h.allowed in
+        let has = allowed.article in
+        let ps = one_held d l m n h in
+        order ha d has.0 (first_none d l m n h)
+        (λ ea.
+        let ka = subst (λ z. SetBreach t s held ms (set_at z l m n)) (sym ea) h in
+        order hi l ps.0.0 (second_none _ l m n ka)
+        (λ ei.
+        let ki = subst (λ z. SetBreach t s held ms (set_at ha.place z m n)) (sym ei) ka in
+        order hj m ps.1.0 (third_none _ _ m n ki)
+        (λ ej. last n (subst (λ z. SetBreach t s held ms (set_at ha.place hi.place z n)) (sym ej) ki))))
 
-    none_one : (c : Breach) → At c → first_leg t s held ms c.article ≡ None → ⊥
-    none_one c h e = let p = h.one in none_two c h (none_found (second_leg t s held ms c.article) 1 (length held) e c.first p.0 (omega arith))
+    has_a : Has t ha.place
+    has_a = let high = ha.high in (ha.low, omega arith)
 
-    in_order : (c : Breach) → At c → NotAfter (breach_at a i j k) c
-    in_order c h =
-        let p = h.one in
-        let q = h.other in
-        let b = h.has in
-        ⊎_elim
-        (λ ea. ⊎_elim
-        (λ ei. ⊎_elim
-        (λ ej. inr (ea, inr (ei, inr (ej, in-k c h (sym ea) (sym ei) (sym ej)))))
-        (λ r. ⊎_elim (λ l. inr (ea, inr (ei, inl l)))
-        (λ g. absurd (h.some (ap (λ (x : ℕ). third_leg t s held ms x c.first c.second) (sym ea) ∙ ap (λ (x : ℕ). third_leg t s held ms a x c.second) (sym ei) ∙ in-j c.second q.0 g))) r)
-        (cases_order j c.second))
-        (λ r. ⊎_elim (λ l. inr (ea, inl l))
-        (λ g. absurd (none_two c h (ap (λ (x : ℕ). second_leg t s held ms x c.first) (sym ea) ∙ in-i c.first p.0 g))) r)
-        (cases_order i c.first))
-        (λ r. ⊎_elim (λ l. inl l) (λ g. absurd (none_one c h (in-a c.article b.0 g))) r)
-        (cases_order a c.article)
+    held_i : Position held hi.place
+    held_i = let high = hi.high in (hi.low, omega arith)
 
-  made : (x b : Breach) → first_alone t s held ms ≡ None → (x ≡ b) × SetBreach t s held ms b → ((c : Breach) → At c → NotAfter x c) → First t s held ms b
-  made x b none h order = record {
-    breaks = inr h.1;
-    first = λ c k.
-        ⊎_elim
-        (λ l. let p = l.position in absurd (alone_found c l (none_found (alone_breach t s held ms) 1 (length held) none c.first p.0 (omega arith))))
-        (λ l. subst (λ (z : Breach). NotAfter z c) h.0 (order c (placed c l)))
-        k;
-  }
+    held_j : Position held hj.place
+    held_j = let high = hj.high in (hj.low, omega arith)
 
-  set_first : (b : Breach) → first_alone t s held ms ≡ None → first_article t s held ms ≡ Some b → First t s held ms b
-  set_first b none e =
+    two_first : t.legs ha.place ≡ 2 → First t s held ms b
+    two_first n =
+        let w = set_some ha.place hi.place hj.place None b has_a (sym n) (held_i, (held_j, tt)) (sym (two_legs _ _ _ n) ∙ hj.is) in
+        subst (First t s held ms) w.0 (record { breaks = w.1; first = set_order None (λ m h. tt) })
+
+    third_order : t.legs ha.place ≡ 3 → (hk : Hit (λ k. set_breach t s held ms ha.place hi.place hj.place (Some k)) 1 (length held) b) (n : Option ℕ) → SetBreach t s held ms (set_at ha.place hi.place hj.place n) → LegNotAfter (Some hk.place) n
+    third_order legs hk None h = let allowed = h.allowed in let two = allowed.legs in omega arith
+    third_order legs hk (Some n) h =
+        let allowed = h.allowed in
+        let ps = allowed.positions in
+        let p = ps.1.1.0 in
+        ⊎_elim (λ l. absurd (set_none _ _ _ (Some n) h (hk.before n p.0 l))) (λ l. l) (cases_lt n hk.place)
+
+    three_first : t.legs ha.place ≡ 3 → First t s held ms b
+    three_first n =
+        let hk = found (λ k. set_breach t s held ms ha.place hi.place hj.place (Some k)) 1 (length held) b (sym (three_legs _ _ _ n) ∙ hj.is) in
+        let high = hk.high in
+        let w = set_some ha.place hi.place hj.place (Some hk.place) b has_a (sym n) (held_i, (held_j, ((hk.low, omega arith), tt))) hk.is in
+        subst (First t s held ms) w.0 (record { breaks = w.1; first = set_order (Some hk.place) (third_order n hk) })
+
+    set_first : First t s held ms b
+    set_first =
+        let low = law.legs_low ha.place has_a in
+        let high = law.legs_high ha.place has_a in
+        ⊎_elim two_first (λ d. three_first (omega arith)) (cases_eq (t.legs ha.place) 2)
+
+  article_first : (b : Breach) → first_alone t s held ms ≡ None → first_article t s held ms ≡ Some b → First t s held ms b
+  article_first b none e =
       let ha = found (first_leg t s held ms) 1 t.articles b e in
-      let a = ha.place in
-      let hi = found (second_leg t s held ms a) 1 (length held) b ha.is in
-      let i = hi.place in
-      let hj = found (third_leg t s held ms a i) 1 (length held) b hi.is in
-      let j = hj.place in
-      let ua = ha.high in
-      let ui = hi.high in
-      let uj = hj.high in
-      let has : Has t a = (ha.low, omega arith) in
-      let pi : Position held i = (hi.low, omega arith) in
-      let pj : Position held j = (hj.low, omega arith) in
-      ⊎_elim
-      (λ z.
-      made (breach_at a i j 0) b none
-      (set_breaks (two a i j) (breach_at a i j 0) b has (sym z) (pi, (pj, tt)) refl
-      (sym (cond-true (eqb (t.legs a) 2) (two_breach t s held ms a i j) (third_of_three t s held ms a i j) (eq-eqb (t.legs a) 2 z)) ∙ hj.is))
-      (in_order a i j 0 ha.before hi.before hj.before (λ c h x y w. omega arith)))
-      (λ d.
-      let lo = law.legs_low a has in
-      let up = law.legs_high a has in
-      let n : t.legs a ≡ 3 = omega arith in
-      let hk = found (three_breach t s held ms a i j) 1 (length held) b (sym (cond-false (eqb (t.legs a) 2) (two_breach t s held ms a i j) (third_of_three t s held ms a i j) (ne_eqb (t.legs a) 2 d)) ∙ hj.is) in
-      let k = hk.place in
-      let lk = hk.low in
-      let uk = hk.high in
-      let pk : Position held k = (lk, omega arith) in
-      made (breach_at a i j k) b none
-      (set_breaks (three a i j k) (breach_at a i j k) b has (sym n) (pi, (pj, (pk, tt)))
-      (ap (λ (qs : List ℕ). record { article = a; legs = qs }) (sym (legs_three (breach_at a i j k) (λ z. omega arith)))) hk.is)
-      (in_order a i j k ha.before hi.before hj.before
-      (λ c h x y w.
-      let last = h.last (ap t.legs x ∙ n) in
-      ⊎_elim
-      (λ g. absurd (last.2 (ap (λ (v : ℕ). three_breach t s held ms v c.first c.second c.third) x ∙ ap (λ (v : ℕ). three_breach t s held ms a v c.second c.third) y ∙ ap (λ (v : ℕ). three_breach t s held ms a i v c.third) w ∙ hk.before c.third last.0 g)))
-      (λ g. g)
-      (cases_lt c.third k))))
-      (cases_eq (t.legs a) 2)
+      let hi = found (second_leg t s held ms ha.place) 1 (length held) b ha.is in
+      let hj = found (third_leg t s held ms ha.place hi.place) 1 (length held) b hi.is in
+      set_first b none ha hi hj
 
 pub search_finds_first : SearchFindsFirst
 search_finds_first t law s held ms b e =
     ⊎_elim
     (λ h. alone_first t law s held ms b h)
-    (λ h. set_first t law s held ms b h.0 h.1)
-    (either (first_alone t s held ms) (first_article t s held ms) b e)
+    (λ h. article_first t law s held ms b h.0 h.1)
+    (or_some (first_alone t s held ms) (first_article t s held ms) b e)

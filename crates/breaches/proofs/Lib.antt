@@ -1,3 +1,3 @@
 pub mod Firsts
-pub mod Fairness
 pub mod Least
+pub mod Fairness

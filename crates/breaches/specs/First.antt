@@ -1,43 +1,43 @@
 -- The first breach, as a relation: a breach that no other comes before.
-use Rattle.std.specs.Prelude.{◌≡◌, ℕ, ◌<◌, ◌≤◌, cond, ◌⊎◌, List, [], ◌∷◌, ℤ, pos, ◌<ℤ◌, Some, ◌==◌}
+use Rattle.std.specs.Prelude.{◌≡◌, ℕ, ◌<◌, ◌≤◌, ◌⊎◌, List, ℤ, pos, ◌<ℤ◌, Some, None, Option}
 use Rattle.positions.specs.declared.record.Record.{Record}
 use Rattle.books.specs.Tables.{Tables, Lawful}
 use Rattle.pairing.specs.Pairing.{Position, at, mark, Set, Allowed, requirement, worth}
 use Rattle.breaches.specs.declared.Breach.{Breach}
-use Rattle.breaches.specs.Search.{first_breach}
-
--- the third leg is 0 where there are two
-abbrev pub legs_in : Breach → List ℕ
-legs_in b = cond (b.third == 0) (b.first ∷ b.second ∷ []) (b.first ∷ b.second ∷ b.third ∷ [])
-
--- the set that a breach names
-abbrev pub set_in : Breach → Set
-set_in b = record { article = b.article; legs = legs_in b }
+use Rattle.breaches.specs.declared.Breach.TheVariants as breach
+use Rattle.breaches.specs.Search.{set_at, first_breach}
 
 -- a position whose mark is above its requirement alone
-pub record AloneBreach (t : Tables) (s : ℕ) (held : List Record) (ms : List ℤ) (b : Breach) : Type 0 where
-  pub no_article : b.article ≡ 0
-  pub position : Position held b.first
-  pub no_second : b.second ≡ 0
-  pub no_third : b.third ≡ 0
-  pub over : pos (t.alone s (at held b.first)) <ℤ mark ms b.first
+pub record AloneBreach (t : Tables) (s : ℕ) (held : List Record) (ms : List ℤ) (p : ℕ) : Type 0 where
+  pub position : Position held p
+  pub over : pos (t.alone s (at held p)) <ℤ mark ms p
 
 -- an allowed set whose marks are above its requirement
-pub record SetBreach (t : Tables) (s : ℕ) (held : List Record) (ms : List ℤ) (b : Breach) : Type 0 where
-  pub allowed : Allowed t s held (set_in b)
-  pub over : pos (requirement t s held (set_in b)) <ℤ worth s held ms (legs_in b)
+pub record SetBreach (t : Tables) (s : ℕ) (held : List Record) (ms : List ℤ) (x : Set) : Type 0 where
+  pub allowed : Allowed t s held x
+  pub over : pos (requirement t s held x) <ℤ worth s held ms x.legs
 
 -- the one or the other
 abbrev pub Breaks : Tables → ℕ → List Record → List ℤ → Breach → Type 0
-Breaks t s held ms b = AloneBreach t s held ms b ⊎ SetBreach t s held ms b
+Breaks t s held ms (breach.Alone p) = AloneBreach t s held ms p
+Breaks t s held ms (breach.Set a i j k) = SetBreach t s held ms (set_at a i j k)
 
--- in order of article, which is 0 alone, then of legs 1, 2 and 3
+-- no third leg comes before any
+abbrev pub LegNotAfter : Option ℕ → Option ℕ → Type 0
+LegNotAfter None n = Unit {0}
+LegNotAfter (Some k) None = ⊥
+LegNotAfter (Some k) (Some n) = k ≤ n
+
+-- positions alone in order, before sets in order of article, then of legs 1, 2 and 3
 abbrev pub NotAfter : Breach → Breach → Type 0
-NotAfter b c =
-    (b.article < c.article)
-    ⊎ ((b.article ≡ c.article) × ((b.first < c.first)
-    ⊎ ((b.first ≡ c.first) × ((b.second < c.second)
-    ⊎ ((b.second ≡ c.second) × (b.third ≤ c.third))))))
+NotAfter (breach.Alone p) (breach.Alone q) = p ≤ q
+NotAfter (breach.Alone p) (breach.Set b l m n) = Unit {0}
+NotAfter (breach.Set a i j k) (breach.Alone q) = ⊥
+NotAfter (breach.Set a i j k) (breach.Set b l m n) =
+    (a < b)
+    ⊎ ((a ≡ b) × ((i < l)
+    ⊎ ((i ≡ l) × ((j < m)
+    ⊎ ((j ≡ m) × LegNotAfter k n)))))
 
 -- a breach, and none comes before it
 pub record First (t : Tables) (s : ℕ) (held : List Record) (ms : List ℤ) (b : Breach) : Type 0 where

@@ -1,11 +1,16 @@
 // A breach of fairness.
 #![tactic(auto)]
 
-// An article and its legs, 0 where there is no third; for a position alone, article 0 and the position.
+// A position alone, or an article and the positions that are its two or three legs.
 #[derive(Clone, Copy)]
-pub struct Breach {
-    pub article: u8,
-    pub first: u8,
-    pub second: u8,
-    pub third: u8,
+pub enum Breach {
+    Alone {
+        position: u8,
+    },
+    Set {
+        article: u8,
+        first: u8,
+        second: u8,
+        third: Option<u8>,
+    },
 }

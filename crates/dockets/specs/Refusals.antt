@@ -1,10 +1,12 @@
 -- The refusals of a docket: the number of each, and what is returned with it.
-use Rattle.std.specs.Prelude.{ℕ}
+use Rattle.std.specs.Prelude.{ℕ, Some, None}
 use Rattle.positions.specs.declared.RecordFault.{RecordFault}
 use Rattle.positions.specs.declared.RecordFault.TheVariants.{OutOfRange}
 use Rattle.positions.specs.Refusals.{field_number}
 use Rattle.articles.specs.Causes.{leg_number, leg_or_zero}
 use Rattle.books.specs.declared.BookFault.{BookFault}
+use Rattle.breaches.specs.declared.Breach.{Breach}
+use Rattle.breaches.specs.declared.Breach.TheVariants as breach
 use Rattle.certificate.specs.declared.CertifyFault.{CertifyFault}
 use Rattle.certificate.specs.declared.CertifyFault.TheVariants as fault
 use Rattle.dockets.specs.declared.Details.{Details}
@@ -34,8 +36,14 @@ refusal_number (Unfair breach) = 17
 abbrev pub four_of : ℕ → ℕ → ℕ → ℕ → Details
 four_of a b c d = record { one = a; two = b; three = c; four = d }
 
+-- of a breach: the article and its positions; for a position alone 0 and the position
+abbrev pub breach_details : Breach → Details
+breach_details (breach.Alone p) = four_of 0 p 0 0
+breach_details (breach.Set a i j None) = four_of a i j 0
+breach_details (breach.Set a i j (Some k)) = four_of a i j k
+
 -- 2 the field; 3 the position; 7, 8 and 10 the leg; 9 the book's cause and leg; 15 the marks given and the positions held;
--- 16 the position; 17 the article and its positions, for a position alone 0 and the position
+-- 16 the position; 17 the breach
 abbrev pub refusal_details : Refusal → Details
 refusal_details SizeOutOfRange = four_of 0 0 0 0
 refusal_details (FieldOutOfRange field) = four_of (field_number field) 0 0 0
@@ -53,7 +61,7 @@ refusal_details NoSuchClaim = four_of 0 0 0 0
 refusal_details MoreThanClaimed = four_of 0 0 0 0
 refusal_details (NotOneEach given held) = four_of given held 0 0
 refusal_details (BeyondLimit position) = four_of position 0 0 0
-refusal_details (Unfair breach) = four_of breach.article breach.first breach.second breach.third
+refusal_details (Unfair b) = breach_details b
 
 -- a refusal from below comes up whole
 abbrev pub from_record : RecordFault → Refusal

@@ -146,11 +146,24 @@ impl Refusal {
                 four: 0,
             },
             Refusal::BeyondLimit(position) => one(position),
-            Refusal::Unfair(breach) => Details {
-                one: breach.article as usize,
-                two: breach.first as usize,
-                three: breach.second as usize,
-                four: breach.third as usize,
+            Refusal::Unfair(Breach::Alone { position }) => Details {
+                one: 0,
+                two: position as usize,
+                three: 0,
+                four: 0,
+            },
+            Refusal::Unfair(
+                Breach::Set {
+                    article,
+                    first,
+                    second,
+                    third,
+                },
+            ) => Details {
+                one: article as usize,
+                two: first as usize,
+                three: second as usize,
+                four: third.map_or(0, |third| third as usize),
             },
             Refusal::SizeOutOfRange => one(0),
             Refusal::PositionsFull => one(0),

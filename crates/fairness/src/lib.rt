@@ -1,10 +1,10 @@
 // The first breach of fairness.
 #![tactic(auto)]
 
-ghost use Rattle.std.specs.Prelude.{◌≡◌, ℕ, ◌+◌, ◌^◌, ◌<◌, ◌≤◌, List, [], ◌∷◌, length, ℤ, pos, ◌*ℤ◌, neg_ℤ, ◌≤ℤ◌, Some, int_lt};
+ghost use Rattle.std.specs.Prelude.{◌≡◌, ℕ, ◌^◌, ◌≤◌, length, pos, ◌*ℤ◌, neg_ℤ, ◌≤ℤ◌, Some, int_lt};
 ghost use Rattle.books.specs.Tables.{Has};
-ghost use Rattle.pairing.specs.Pairing.{Position, at, mark, lot, worth};
-ghost use Rattle.breaches.specs.Search.{above, unfair, two, three, alone_breach, two_breach, three_breach, third_of_three, third_leg, second_leg, first_leg, first_alone, first_article, first_breach, Limited, NoneExactlyIfFair};
+ghost use Rattle.pairing.specs.Pairing.{Position, Positions, at, mark, lot, worth, answer, distinct};
+ghost use Rattle.breaches.specs.Search.{legs_at, set_at, alone_breach, set_breach, third_leg, second_leg, first_leg, first_alone, first_article, first_breach, Limited, NoneExactlyIfFair};
 ghost use Rattle.breaches.specs.First.{First};
 
 use amounts::ContractSize;
@@ -13,313 +13,186 @@ use breaches::Breach;
 use pairing::{mark_times, set_takes};
 use positions::Record;
 
-// The mark of what a set takes of a position.
-fn leg_worth(size: ContractSize, held: &[Record], marks: &[i64], p: usize) -> i128
-    requires marks_len { length marks.now ≡ length held.now }
-    requires position { Position held.now p }
-    ensures value { result ≡ mark marks.now p *ℤ pos (lot size.units held.now p) }
-    ensures low { neg_ℤ (pos (2 ^ 95)) ≤ℤ result }
-    ensures high { result ≤ℤ pos (2 ^ 95) }
-{
-    mark_times(marks[p - 1], set_takes(size, held[p - 1].kind) as u32)
-}
-
-// The marks of what two legs take, and of what three do.
-fn two_worth(size: ContractSize, held: &[Record], marks: &[i64], i: usize, j: usize) -> i128
-    requires marks_len { length marks.now ≡ length held.now }
-    requires position { (Position held.now i) × (Position held.now j) }
-    ensures { result ≡ worth size.units held.now marks.now (i ∷ j ∷ []) }
-{
-    leg_worth(size, held, marks, i) + leg_worth(size, held, marks, j)
-}
-
-fn three_worth(
+// The positions held, at most 32, with a mark for each, over a book and a contract size.
+#[derive(Drop)]
+struct Search<'a, B> {
+    book: &'a B,
     size: ContractSize,
-    held: &[Record],
-    marks: &[i64],
-    i: usize,
-    j: usize,
-    k: usize,
-) -> i128
-    requires marks_len { length marks.now ≡ length held.now }
-    requires position { (Position held.now i) × ((Position held.now j) × (Position held.now k)) }
-    ensures { result ≡ worth size.units held.now marks.now (i ∷ j ∷ k ∷ []) }
-{
-    leg_worth(size, held, marks, i)
-        + leg_worth(size, held, marks, j)
-        + leg_worth(size, held, marks, k)
+    held: &'a [Record],
+    marks: &'a [i64],
+    ghost each: { length marks.now ≡ length held.now },
+    ghost few: { length held.now ≤ 32 },
 }
 
 // Whether marks pass a requirement.
-fn passes(n: u64, m: i128) -> bool
-    ensures { result ≡ int_lt (pos n) m }
+fn passes(marks: i128, requirement: u64) -> bool
+    ensures { result ≡ int_lt (pos requirement) marks }
 {
-    m > n as i128
+    marks > i128::from(requirement)
 }
 
-// Whether marks pass what the book requires, if it requires anything.
-fn above(answer: Result<u64, BookFault>, m: i128) -> bool
-    ensures { result ≡ above answer m }
+// Whether no position is a leg twice.
+fn distinct(first: u8, second: u8, third: Option<u8>) -> bool
+    ensures { result ≡ distinct (legs_at first second third) }
 {
-    match answer {
-        Ok(n) => passes(n, m),
-        Err(_) => false,
+    match third {
+        None => first != second,
+        Some(third) => first != second && first != third && second != third,
     }
 }
 
-fn two_unfair<B: Book>(
-    book: &B,
-    size: ContractSize,
-    held: &[Record],
-    marks: &[i64],
-    a: u8,
-    i: usize,
-    j: usize,
-) -> bool
-    requires has { Has (B.Book.tables book.now) a }
-    requires a_value { (B.Book.tables book.now).legs a ≡ 2 }
-    requires marks_len { length marks.now ≡ length held.now }
-    requires position { (Position held.now i) × (Position held.now j) }
-    ensures { result ≡ unfair (B.Book.tables book.now) size.units held.now marks.now (two a i j) }
-{
-    let answer = book.paired(size, a, &[held[i - 1], held[j - 1]]);
-    above(answer, two_worth(size, held, marks, i, j))
-}
-
-fn three_unfair<B: Book>(
-    book: &B,
-    size: ContractSize,
-    held: &[Record],
-    marks: &[i64],
-    a: u8,
-    i: usize,
-    j: usize,
-    k: usize,
-) -> bool
-    requires has { Has (B.Book.tables book.now) a }
-    requires a_value { (B.Book.tables book.now).legs a ≡ 3 }
-    requires marks_len { length marks.now ≡ length held.now }
-    requires position { (Position held.now i) × ((Position held.now j) × (Position held.now k)) }
-    ensures { result ≡ unfair (B.Book.tables book.now) size.units held.now marks.now (three a i j k) }
-{
-    let answer = book.paired(size, a, &[held[i - 1], held[j - 1], held[k - 1]]);
-    above(answer, three_worth(size, held, marks, i, j, k))
-}
-
-// The breach of one set, if it is one.
-fn two_breach<B: Book>(
-    book: &B,
-    size: ContractSize,
-    held: &[Record],
-    marks: &[i64],
-    a: u8,
-    i: usize,
-    j: usize,
-) -> Option<Breach>
-    requires has { Has (B.Book.tables book.now) a }
-    requires a_value { (B.Book.tables book.now).legs a ≡ 2 }
-    requires marks_len { (length marks.now ≡ length held.now) × (length held.now ≤ 32) }
-    requires position { (Position held.now i) × (Position held.now j) }
-    ensures { result ≡ two_breach (B.Book.tables book.now) size.units held.now marks.now a i j }
-{
-    if i == j {
-        return None;
+impl<B: Book> Search<'_, B> {
+    // The number of positions; they are numbered from 1.
+    fn positions(&self) -> u8
+        ensures { result ≡ length self.now.held.now }
+    {
+        self.held.len() as u8
     }
-    if two_unfair(book, size, held, marks, a, i, j) {
-        return Some(Breach {
-            article: a,
-            first: i as u8,
-            second: j as u8,
-            third: 0,
-        });
-    }
-    None
-}
 
-fn three_breach<B: Book>(
-    book: &B,
-    size: ContractSize,
-    held: &[Record],
-    marks: &[i64],
-    a: u8,
-    i: usize,
-    j: usize,
-    k: usize,
-) -> Option<Breach>
-    requires has { Has (B.Book.tables book.now) a }
-    requires a_value { (B.Book.tables book.now).legs a ≡ 3 }
-    requires marks_len { (length marks.now ≡ length held.now) × (length held.now ≤ 32) }
-    requires position { (Position held.now i) × ((Position held.now j) × (Position held.now k)) }
-    ensures { result ≡ three_breach (B.Book.tables book.now) size.units held.now marks.now a i j k }
-{
-    if i == j || i == k || j == k {
-        return None;
+    fn record(&self, position: u8) -> Record
+        requires { Position self.now.held.now position }
+        ensures { result ≡ at self.now.held.now position }
+    {
+        self.held[usize::from(position) - 1]
     }
-    if three_unfair(book, size, held, marks, a, i, j, k) {
-        return Some(Breach {
-            article: a,
-            first: i as u8,
-            second: j as u8,
-            third: k as u8,
-        });
-    }
-    None
-}
 
-// The first breach with the legs before given.
-fn third_of_three<B: Book>(
-    book: &B,
-    size: ContractSize,
-    held: &[Record],
-    marks: &[i64],
-    a: u8,
-    i: usize,
-    j: usize,
-) -> Option<Breach>
-    requires has { Has (B.Book.tables book.now) a }
-    requires a_value { (B.Book.tables book.now).legs a ≡ 3 }
-    requires marks_len { (length marks.now ≡ length held.now) × (length held.now ≤ 32) }
-    requires position { (Position held.now i) × (Position held.now j) }
-    ensures { result ≡ third_of_three (B.Book.tables book.now) size.units held.now marks.now a i j }
-{
-    for k in 0..held.len() {
-        let r = three_breach(book, size, held, marks, a, i, j, k + 1);
-        if r.is_some() {
-            return r;
+    fn mark(&self, position: u8) -> i64
+        requires { Position self.now.held.now position }
+        ensures { result ≡ mark self.now.marks.now position }
+    {
+        self.marks[usize::from(position) - 1]
+    }
+
+    // The mark of what a set takes of a position.
+    fn leg_worth(&self, leg: u8) -> i128
+        requires { Position self.now.held.now leg }
+        ensures value { result ≡ mark self.now.marks.now leg *ℤ pos (lot self.now.size.units self.now.held.now leg) }
+        ensures low { neg_ℤ (pos (2 ^ 95)) ≤ℤ result }
+        ensures high { result ≤ℤ pos (2 ^ 95) }
+    {
+        mark_times(
+            self.mark(leg),
+            u32::from(set_takes(self.size, self.record(leg).kind)),
+        )
+    }
+
+    // The marks of what a set takes.
+    fn worth(&self, first: u8, second: u8, third: Option<u8>) -> i128
+        requires { Positions self.now.held.now (legs_at first second third) }
+        ensures { result ≡ worth self.now.size.units self.now.held.now self.now.marks.now (legs_at first second third) }
+    {
+        let pair = self.leg_worth(first) + self.leg_worth(second);
+        match third {
+            None => pair,
+            Some(third) => pair + self.leg_worth(third),
         }
     }
-    None
-}
 
-fn third_leg<B: Book>(
-    book: &B,
-    size: ContractSize,
-    held: &[Record],
-    marks: &[i64],
-    a: u8,
-    i: usize,
-    j: usize,
-) -> Option<Breach>
-    requires has { Has (B.Book.tables book.now) a }
-    requires marks_len { (length marks.now ≡ length held.now) × (length held.now ≤ 32) }
-    requires position { (Position held.now i) × (Position held.now j) }
-    ensures { result ≡ third_leg (B.Book.tables book.now) size.units held.now marks.now a i j }
-{
-    if book.legs(a) == 2 {
-        return two_breach(book, size, held, marks, a, i, j);
-    }
-    third_of_three(book, size, held, marks, a, i, j)
-}
-
-fn second_leg<B: Book>(
-    book: &B,
-    size: ContractSize,
-    held: &[Record],
-    marks: &[i64],
-    a: u8,
-    i: usize,
-) -> Option<Breach>
-    requires has { Has (B.Book.tables book.now) a }
-    requires marks_len { (length marks.now ≡ length held.now) × (length held.now ≤ 32) }
-    requires position { Position held.now i }
-    ensures { result ≡ second_leg (B.Book.tables book.now) size.units held.now marks.now a i }
-{
-    for j in 0..held.len() {
-        let r = third_leg(book, size, held, marks, a, i, j + 1);
-        if r.is_some() {
-            return r;
+    // What the book requires of a set.
+    fn answer(
+        &self,
+        article: u8,
+        first: u8,
+        second: u8,
+        third: Option<u8>,
+    ) -> Result<u64, BookFault>
+        requires has { Has (B.Book.tables self.now.book.now) article }
+        requires whole { length (legs_at first second third) ≡ (B.Book.tables self.now.book.now).legs article }
+        requires positions { Positions self.now.held.now (legs_at first second third) }
+        ensures { result ≡ answer (B.Book.tables self.now.book.now) self.now.size.units self.now.held.now (set_at article first second third) }
+    {
+        let first = self.record(first);
+        let second = self.record(second);
+        match third {
+            None => self.book.paired(self.size, article, &[first, second]),
+            Some(third) => self
+                .book
+                .paired(self.size, article, &[first, second, self.record(third)]),
         }
     }
-    None
-}
 
-fn first_leg<B: Book>(
-    book: &B,
-    size: ContractSize,
-    held: &[Record],
-    marks: &[i64],
-    a: u8,
-) -> Option<Breach>
-    requires has { Has (B.Book.tables book.now) a }
-    requires marks_len { (length marks.now ≡ length held.now) × (length held.now ≤ 32) }
-    ensures { result ≡ first_leg (B.Book.tables book.now) size.units held.now marks.now a }
-{
-    for i in 0..held.len() {
-        let r = second_leg(book, size, held, marks, a, i + 1);
-        if r.is_some() {
-            return r;
+    // The breach of one set, if it is one: its marks are above what the book requires, if it requires anything.
+    fn set_breach(&self, article: u8, first: u8, second: u8, third: Option<u8>) -> Option<Breach>
+        requires has { Has (B.Book.tables self.now.book.now) article }
+        requires whole { length (legs_at first second third) ≡ (B.Book.tables self.now.book.now).legs article }
+        requires positions { Positions self.now.held.now (legs_at first second third) }
+        ensures { result ≡ set_breach (B.Book.tables self.now.book.now) self.now.size.units self.now.held.now self.now.marks.now article first second third }
+    {
+        if !distinct(first, second, third) {
+            return None;
+        }
+        let worth = self.worth(first, second, third);
+        self.answer(article, first, second, third)
+            .is_ok_and(|requirement| passes(worth, requirement))
+            .then_some(Breach::Set {
+                article,
+                first,
+                second,
+                third,
+            })
+    }
+
+    // The first breach with the legs before given.
+    fn third_leg(&self, article: u8, first: u8, second: u8) -> Option<Breach>
+        requires has { Has (B.Book.tables self.now.book.now) article }
+        requires positions { Position self.now.held.now first × Position self.now.held.now second }
+        ensures { result ≡ third_leg (B.Book.tables self.now.book.now) self.now.size.units self.now.held.now self.now.marks.now article first second }
+    {
+        if self.book.legs(article) == 2 {
+            return self.set_breach(article, first, second, None);
+        }
+        (1..=self.positions()).find_map(|third| self.set_breach(
+            article,
+            first,
+            second,
+            Some(third),
+        ))
+    }
+
+    fn second_leg(&self, article: u8, first: u8) -> Option<Breach>
+        requires has { Has (B.Book.tables self.now.book.now) article }
+        requires position { Position self.now.held.now first }
+        ensures { result ≡ second_leg (B.Book.tables self.now.book.now) self.now.size.units self.now.held.now self.now.marks.now article first }
+    {
+        (1..=self.positions()).find_map(|second| self.third_leg(article, first, second))
+    }
+
+    fn first_leg(&self, article: u8) -> Option<Breach>
+        requires { Has (B.Book.tables self.now.book.now) article }
+        ensures { result ≡ first_leg (B.Book.tables self.now.book.now) self.now.size.units self.now.held.now self.now.marks.now article }
+    {
+        (1..=self.positions()).find_map(|first| self.second_leg(article, first))
+    }
+
+    fn first_article(&self) -> Option<Breach>
+        ensures { result ≡ first_article (B.Book.tables self.now.book.now) self.now.size.units self.now.held.now self.now.marks.now }
+    {
+        (1..=self.book.articles()).find_map(|article| self.first_leg(article))
+    }
+
+    // The breach of a position alone, if it is one.
+    fn alone_breach(&self, position: u8) -> Option<Breach>
+        requires { Position self.now.held.now position }
+        ensures { result ≡ alone_breach (B.Book.tables self.now.book.now) self.now.size.units self.now.held.now self.now.marks.now position }
+    {
+        let requirement = self.book.alone(self.size, &self.record(position));
+        passes(i128::from(self.mark(position)), requirement).then_some(Breach::Alone { position })
+    }
+
+    fn first_alone(&self) -> Option<Breach>
+        ensures { result ≡ first_alone (B.Book.tables self.now.book.now) self.now.size.units self.now.held.now self.now.marks.now }
+    {
+        (1..=self.positions()).find_map(|position| self.alone_breach(position))
+    }
+
+    fn first_breach(&self) -> Option<Breach>
+        ensures { result ≡ first_breach (B.Book.tables self.now.book.now) self.now.size.units self.now.held.now self.now.marks.now }
+    {
+        match self.first_alone() {
+            None => self.first_article(),
+            found => found,
         }
     }
-    None
-}
-
-fn first_article<B: Book>(
-    book: &B,
-    size: ContractSize,
-    held: &[Record],
-    marks: &[i64],
-) -> Option<Breach>
-    requires { (length marks.now ≡ length held.now) × (length held.now ≤ 32) }
-    ensures { result ≡ first_article (B.Book.tables book.now) size.units held.now marks.now }
-{
-    for a in 0..book.articles() {
-        let r = first_leg(book, size, held, marks, a + 1);
-        if r.is_some() {
-            return r;
-        }
-    }
-    None
-}
-
-fn alone_breach<B: Book>(
-    book: &B,
-    size: ContractSize,
-    held: &[Record],
-    marks: &[i64],
-    p: usize,
-) -> Option<Breach>
-    requires marks_len { (length marks.now ≡ length held.now) × (length held.now ≤ 32) }
-    requires position { Position held.now p }
-    ensures { result ≡ alone_breach (B.Book.tables book.now) size.units held.now marks.now p }
-{
-    if passes(book.alone(size, &held[p - 1]), marks[p - 1] as i128) {
-        return Some(Breach {
-            article: 0,
-            first: p as u8,
-            second: 0,
-            third: 0,
-        });
-    }
-    None
-}
-
-fn first_alone<B: Book>(
-    book: &B,
-    size: ContractSize,
-    held: &[Record],
-    marks: &[i64],
-) -> Option<Breach>
-    requires { (length marks.now ≡ length held.now) × (length held.now ≤ 32) }
-    ensures { result ≡ first_alone (B.Book.tables book.now) size.units held.now marks.now }
-{
-    for p in 0..held.len() {
-        let r = alone_breach(book, size, held, marks, p + 1);
-        if r.is_some() {
-            return r;
-        }
-    }
-    None
-}
-
-fn search<B: Book>(book: &B, size: ContractSize, held: &[Record], marks: &[i64]) -> Option<Breach>
-    requires { (length marks.now ≡ length held.now) × (length held.now ≤ 32) }
-    ensures { result ≡ first_breach (B.Book.tables book.now) size.units held.now marks.now }
-{
-    let r = first_alone(book, size, held, marks);
-    if r.is_some() {
-        return r;
-    }
-    first_article(book, size, held, marks)
 }
 
 // The first breach of fairness; none exactly where the marks are fair.
@@ -335,5 +208,11 @@ pub fn first_breach<B: Book>(
     ensures fair { NoneExactlyIfFair (B.Book.tables book.now) size.units held.now marks.now result }
     ensures first { (b : Breach) → result ≡ Some b → First (B.Book.tables book.now) size.units held.now marks.now b }
 {
-    search(book, size, held, marks)
+    let search = Search {
+        book,
+        size,
+        held,
+        marks,
+    };
+    search.first_breach()
 }

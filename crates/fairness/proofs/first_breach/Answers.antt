@@ -7,7 +7,7 @@ pub returns : goal.returns
 returns g c =
     let k = c.args.book.now in
     record {
-      value = c.search.ensures;
-      fair = none_exactly_if_fair (g.B.Book.tables k) (g.met.B.Book.lawful k) c.args.size.units c.args.held.now c.args.marks.now c.requires.marks_len.0 c.requires.limited c.search.result c.search.ensures;
-      first = λ b e. search_finds_first (g.B.Book.tables k) (g.met.B.Book.lawful k) c.args.size.units c.args.held.now c.args.marks.now b (sym c.search.ensures ∙ e);
+      value = c.first_breach.ensures;
+      fair = none_exactly_if_fair (g.B.Book.tables k) (g.met.B.Book.lawful k) c.args.size.units c.args.held.now c.args.marks.now c.requires.marks_len.0 c.requires.limited c.first_breach.result c.first_breach.ensures;
+      first = λ b e. search_finds_first (g.B.Book.tables k) (g.met.B.Book.lawful k) c.args.size.units c.args.held.now c.args.marks.now b (sym c.first_breach.ensures ∙ e);
     }
