@@ -1,26 +1,38 @@
 -- Steps of sums, and the limit of what a claim adds to one.
-use Rattle.std.proofs.Common.{◌≡◌, ℕ, ◌+◌, ◌<◌, ◌≤◌, ◌&&◌, eqb, leb, List, ◌∷◌, map, length, get_or, drop, ℤ, ◌+ℤ◌, Ok, Err, Result, sym, ap, ◌∙◌, subst, ⊎_elim, add-one, arith}
+use Rattle.std.proofs.Common.{◌≡◌, ℕ, suc, ◌+◌, ◌*◌, ◌<◌, ◌≤◌, Bool, true, false, cond, ◌&&◌, eqb, leb, List, [], ◌∷◌, map, length, sum_by, ℤ, ◌+ℤ◌, Ok, Err, Result, sym, ap, ◌∙◌, subst, ⊎_elim, add-one, arith}
 use lib.ListN.{length-map}
-use Rattle.std.proofs.lemmas.List.{at_drop_more}
+use Rattle.std.specs.List.{enumerate_from}
+use Rattle.std.proofs.lemmas.List.Sums.{sum_by-cons}
 use Rattle.std.proofs.lemmas.Bool.{eqb-true, leb-true, and_parts, cond-true, cond-false, cases_Bool}
 use Rattle.positions.specs.declared.record.Record.{Record}
+use Rattle.positions.specs.declared.Kind.{Kind}
+use Rattle.positions.specs.declared.Kind.TheVariants.{Units, Call, Put, Futures, Receipt}
 use Rattle.books.specs.declared.BookFault.{BookFault}
 use Rattle.books.specs.Tables.{Tables, Has, Size, Within, Lawful}
 use Rattle.pairing.specs.declared.Claim.{Claim}
 use Rattle.pairing.specs.Sums.{sum_n, sum_z}
-use Rattle.pairing.specs.Pairing.{at, amount, answer, requirement}
+use Rattle.pairing.specs.Pairing.{at, of_leg, lot, takes, amount, answer, requirement}
 use Rattle.pairing.specs.Claims.{legs_of, set_of}
 use Rattle.certificate.specs.Totals.{known, line_amount}
-
--- one element more of a sum F of g over a list
-pub sum_more : {X : Type 0} (F : List X → ℕ) (g : X → ℕ) → ((x : X) (xs : List X) → F (x ∷ xs) ≡ g x + F xs) → (xs : List X) (i r : ℕ) (d : X) → i < length xs → r ≡ g (get_or xs i d) → F (drop i xs) ≡ r + F (drop (i + 1) xs)
-sum_more F g step xs i r d h e = at_drop_more F xs i d h ∙ step (get_or xs i d) (drop (i + 1) xs) ∙ ap (λ (n : ℕ). n + F (drop (i + 1) xs)) (sym e)
 
 pub sum_n_more : (n : ℕ) (f : ℕ → ℕ) → sum_n (n + 1) f ≡ sum_n n f + f (n + 1)
 sum_n_more n f = ap (λ (k : ℕ). sum_n k f) (add-one n) ∙ ap (λ (k : ℕ). sum_n n f + f k) (sym (add-one n))
 
 pub sum_z_more : (n : ℕ) (f : ℕ → ℤ) → sum_z (n + 1) f ≡ sum_z n f +ℤ f (n + 1)
 sum_z_more n f = ap (λ (k : ℕ). sum_z k f) (add-one n) ∙ ap (λ (k : ℕ). sum_z n f +ℤ f k) (sym (add-one n))
+
+-- f of each number from i + 1 on, as many as a list has places
+sum_from : {X : Type 0} (f : ℕ → ℕ) (xs : List X) (i : ℕ) → sum_n i f + sum_by (λ p. f (p.0 + 1)) (enumerate_from i xs) ≡ sum_n (i + length xs) f
+sum_from f [] i = let w : i + 0 ≡ i = omega arith in omega (arith, ap (λ (n : ℕ). sum_n n f) w)
+sum_from f (x ∷ xs) i =
+    let first = sum_by-cons (λ p. f (p.0 + 1)) (i, x) (enumerate_from (i + 1) xs) in
+    let more = sum_n_more i f in
+    let rest = sum_from f xs (i + 1) in
+    let w : i + suc (length xs) ≡ i + 1 + length xs = omega arith in
+    omega (arith, ap (λ (n : ℕ). sum_n n f) w)
+
+pub sum_places : {X : Type 0} (f : ℕ → ℕ) (xs : List X) → sum_by (λ p. f (p.0 + 1)) (enumerate_from 0 xs) ≡ sum_n (length xs) f
+sum_places f xs = let w : 0 + length xs ≡ length xs = omega arith in omega (arith, sum_from f xs 0, ap (λ (n : ℕ). sum_n n f) w)
 
 amount_limit : (o : Result ℕ BookFault) → Within o → amount o ≤ 10000000000000
 amount_limit (Ok n) h = h
@@ -40,3 +52,22 @@ line_limit t law s held l size =
     subst (λ (n : ℕ). n ≤ 10000000000000) (sym (cond-true (known t l) set 0 e)) most)
     (λ e. subst (λ (n : ℕ). n ≤ 10000000000000) (sym (cond-false (known t l) set 0 e)) (let w : 0 ≤ 10000000000000 = omega arith in w))
     (cases_Bool (known t l))
+
+-- a set takes at most 1,000 of each leg
+takes_at : (s : ℕ) (k : Kind) → s ≤ 1000 → of_leg s k ≤ 1000
+takes_at s Units h = h
+takes_at s Call h = omega arith
+takes_at s Put h = omega arith
+takes_at s Futures h = omega arith
+takes_at s Receipt h = omega arith
+
+one_limit : (b : Bool) (n : ℕ) → n ≤ 1000 → cond b n 0 ≤ 1000
+one_limit true n h = h
+one_limit false n h = omega arith
+
+pub takes_limit : (s : ℕ) (held : List Record) (qs : List ℕ) (p : ℕ) → s ≤ 1000 → takes s held qs p ≤ 1000 * length qs
+takes_limit s held [] p h = omega arith
+takes_limit s held (q ∷ qs) p h =
+    let here = one_limit (eqb q p) (lot s held q) (takes_at s (at held q).kind h) in
+    let rest = takes_limit s held qs p h in
+    omega arith

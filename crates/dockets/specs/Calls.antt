@@ -6,6 +6,7 @@ use Rattle.positions.specs.declared.Entry.{Entry}
 use Rattle.positions.specs.declared.RecordFault.{RecordFault}
 use Rattle.positions.specs.declared.record.Record.{Record}
 use Rattle.positions.specs.Records.{record_of}
+use Rattle.articles.specs.declared.Leg.{Leg}
 use Rattle.articles.specs.declared.Leg.TheVariants.{First, Second, Third}
 use Rattle.books.specs.declared.BookFault.{BookFault}
 use Rattle.books.specs.Tables.{Tables}
@@ -68,9 +69,17 @@ after_enter size y e = entered y (record_of size e) (enter_reply size y e)
 
 -- ---- claim
 
--- article 0 or beyond the book: 5; sets outside 1 to 5,000: 6
+-- sets outside 1 to 5,000: 6
+abbrev pub sets_ok : Claim → Verdict
+sets_ok c = unless (inside 1 5000 c.sets) SetsOutOfRange good
+
+-- article 0 or beyond the book: 5; and the sets
 abbrev pub article_ok : ℕ → Claim → Verdict
-article_ok articles c = unless (inside 1 articles c.article) NoSuchArticle (unless (inside 1 5000 c.sets) SetsOutOfRange good)
+article_ok articles c = unless (inside 1 articles c.article) NoSuchArticle (sets_ok c)
+
+-- no such position: 7, and the leg
+abbrev pub position_ok : ℕ → Leg → ℕ → Verdict
+position_ok count leg p = unless (inside 1 count p) (NoSuchPosition leg) good
 
 -- a third leg that is needed, or none
 abbrev pub third_ok : ℕ → ℕ → ℕ → Bool
@@ -97,6 +106,10 @@ book_ok (Err fault) = Err (from_book fault)
 -- enough is free of a leg for all sets
 abbrev pub covers : ℕ → Tally → Claim → ℕ → Bool
 covers size y c p = nat_le (c.sets * lot size y.held p) (free size y.held y.claims p)
+
+-- free units short of a leg: 10, and the leg
+abbrev pub leg_covered : ℕ → Tally → Claim → Leg → ℕ → Verdict
+leg_covered size y c leg p = unless (covers size y c p) (UnitsShort leg) good
 
 -- free units short: 10, legs 1, 2 and 3 in order
 abbrev pub covered_ok : ℕ → Tally → Claim → Verdict

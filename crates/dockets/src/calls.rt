@@ -9,7 +9,8 @@ use crate::Refusal;
 use crate::docket::Docket;
 use crate::finding::{find_line, find_position};
 use crate::judging::{
-    apart_ok, article_ok, book_ok, covered_ok, line_sets, positions_ok, sets_left,
+    apart_ok, article_ok, book_ok, covered_ok, line_sets, position_ok, positions_ok, sets_left,
+    sets_ok,
 };
 use crate::state::State;
 use amounts::ContractSize;
@@ -60,13 +61,9 @@ impl<B: Book + Drop> Docket<B> {
         let legs = self.book.legs(c.article as u8);
         positions_ok(self.state.positions().len(), legs, c)?;
         apart_ok(c)?;
-        book_ok(&self.book, self.state.size, self.state.positions(), c)?;
-        covered_ok(
-            self.state.size,
-            self.state.positions(),
-            self.state.claims(),
-            c,
-        )
+        let account = self.account();
+        book_ok(&account, c)?;
+        covered_ok(&account.standing, c)
     }
 
     // Claims sets under an article and answers those then in its line.
@@ -96,9 +93,7 @@ impl<B: Book + Drop> Docket<B> {
         ensures reply { result ≡ release_reply (tally_in self.old.state) c.now }
         ensures after { tally_in self.new.state ≡ after_release (tally_in self.old.state) c.now }
     {
-        if c.sets < 1 || c.sets > 5_000 {
-            return Err(Refusal::SetsOutOfRange);
-        }
+        sets_ok(c)?;
         let place = find_line(self.state.claims(), c);
         let sets = sets_left(self.state.claims(), place, c)?;
         if let Some(i) = place {
@@ -116,27 +111,21 @@ impl<B: Book + Drop> Docket<B> {
     pub fn free(&self, position: u64) -> Result<u32, Refusal>
         ensures { result ≡ free_reply self.now.state.size.units (tally_in self.now.state) position }
     {
-        let held = self.state.positions();
-        if position < 1 || position > held.len() as u64 {
-            return Err(Refusal::NoSuchPosition(Leg::First));
-        }
-        Ok(certificate::free(self.state.size, held, self.state.claims(), position))
+        position_ok(self.state.positions().len(), Leg::First, position)?;
+        Ok(self.standing().free(position))
     }
 
     // The whole requirement.
     pub fn total(&self) -> u128
         ensures { result ≡ total_reply (B.Book.tables self.now.book) self.now.state.size.units (tally_in self.now.state) }
     {
-        let s = &self.state;
-        certificate::total(&self.book, s.size, s.positions(), s.claims())
+        self.account().total()
     }
 
     // The total and the floor where the marks are fair.
     pub fn certify(&self, marks: &[i64]) -> Result<Certificate, Refusal>
         ensures { result ≡ certificate_reply (B.Book.tables self.now.book) self.now.state.size.units (tally_in self.now.state) marks.now }
     {
-        let s = &self.state;
-        let granted = certificate::certify(&self.book, s.size, s.positions(), s.claims(), marks)?;
-        Ok(granted)
+        Ok(self.account().certify(marks)?)
     }
 }

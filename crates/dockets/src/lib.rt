@@ -78,7 +78,7 @@ impl From<CertifyFault> for Refusal {
         ensures { result ≡ from_certify value }
     {
         match value {
-            CertifyFault::NotOneEach(given, held) => Refusal::NotOneEach(given, held),
+            CertifyFault::NotOneEach { given, held } => Refusal::NotOneEach(given, held),
             CertifyFault::BeyondLimit(position) => Refusal::BeyondLimit(position),
             CertifyFault::Unfair(breach) => Refusal::Unfair(breach),
         }

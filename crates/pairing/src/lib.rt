@@ -1,9 +1,9 @@
 // Fair marks, lawful pairings, and the claims standing as one of them.
 #![tactic(auto)]
 
-ghost use Rattle.std.specs.Prelude.{◌≡◌, ◌^◌, pos, ◌*ℤ◌, neg_ℤ, ◌≤ℤ◌};
+ghost use Rattle.std.specs.Prelude.{◌≡◌, ◌^◌, length, pos, ◌*ℤ◌, neg_ℤ, ◌≤ℤ◌};
 ghost use Rattle.pairing.specs.Pairing.{of_leg, FloorUnderCost};
-ghost use Rattle.pairing.specs.Claims.{ClaimsPair};
+ghost use Rattle.pairing.specs.Claims.{legs_of, ClaimsPair};
 ghost use Rattle.pairing.specs.Kept.{SoundKept};
 
 mod text;
@@ -21,13 +21,12 @@ pub struct Claim {
     pub sets: u64,
 }
 
-// What a set takes of a leg.
-fn of_leg(size: ContractSize, kind: Kind) -> u16
-    ensures { result ≡ of_leg size.units kind }
-{
-    match kind {
-        Kind::Units => size.units,
-        Kind::Call | Kind::Put | Kind::Futures | Kind::Receipt => 1,
+impl Claim {
+    // The number of its legs.
+    pub fn legs(&self) -> u8
+        ensures { result ≡ length (legs_of self.now) }
+    {
+        if self.third == 0 { 2 } else { 3 }
     }
 }
 
@@ -39,16 +38,10 @@ pub fn set_takes(size: ContractSize, kind: Kind) -> u16
     ensures claims { ClaimsPair }
     ensures kept { SoundKept }
 {
-    of_leg(size, kind)
-}
-
-// A signed number times a whole one.
-fn signed_product(mark: i64, units: u32) -> i128
-    ensures value { result ≡ mark *ℤ pos units }
-    ensures low { neg_ℤ (pos (2 ^ 95)) ≤ℤ result }
-    ensures high { result ≤ℤ pos (2 ^ 95) }
-{
-    mark as i128 * units as i128
+    match kind {
+        Kind::Units => size.units,
+        Kind::Call | Kind::Put | Kind::Futures | Kind::Receipt => 1,
+    }
 }
 
 // A mark for some units or contracts.
@@ -57,5 +50,5 @@ pub fn mark_times(mark: i64, units: u32) -> i128
     ensures low { neg_ℤ (pos (2 ^ 95)) ≤ℤ result }
     ensures high { result ≤ℤ pos (2 ^ 95) }
 {
-    signed_product(mark, units)
+    i128::from(mark) * i128::from(units)
 }

@@ -1,10 +1,10 @@
-use Rattle.std.proofs.Common.{◌≡◌, ◌*◌, ◌^◌, pos, ◌*ℤ◌, neg_ℤ, ◌≤ℤ◌}
+use Rattle.std.proofs.Common.{◌≡◌, ◌*◌, ◌^◌, length, pos, ◌*ℤ◌, neg_ℤ, ◌≤ℤ◌}
 use Rattle.pairing.specs.Sums.{sum_z}
 use Rattle.pairing.specs.Pairing.{at, mark}
 use Rattle.certificate.proofs.floor.Given as goal
 
-abbrev pub invariant-loop-i : goal.invariant-loop-i
-invariant-loop-i l =
-    (l.total ≡ sum_z l.i (λ p. mark l.marks p *ℤ pos (at l.held p).quantity))
-    × (neg_ℤ (pos (2 ^ 95 * l.i)) ≤ℤ l.total)
-    × (l.total ≤ℤ pos (2 ^ 95 * l.i))
+abbrev pub invariant-loop-record : goal.invariant-loop-record
+invariant-loop-record l =
+    (l.total ≡ sum_z (length l.yielded) (λ p. mark l.marks p *ℤ pos (at l.held p).quantity))
+    × (neg_ℤ (pos (2 ^ 95 * length l.yielded)) ≤ℤ l.total)
+    × (l.total ≤ℤ pos (2 ^ 95 * length l.yielded))
