@@ -3,11 +3,10 @@
 
 use books::Sheet;
 use certificate::Certificate;
-use dockets::Refusal;
 use examples::sample_sheet;
 use pairing::Claim;
 use positions::Entry;
-use runs::{Call, Reply, run};
+use runs::{Call, Granted, Reply, run};
 use std::alloc::{AllocError, Global};
 
 fn entry<'a>(
@@ -84,26 +83,17 @@ fn print_call(rt: &HostRuntime, call: &Call) -> anyhow::Result<()> {
     }
 }
 
-fn print_refusal(rt: &HostRuntime, refusal: Refusal) -> anyhow::Result<()> {
-    let number = refusal.number();
-    let details = refusal.details();
-    let one = details.one;
-    let two = details.two;
-    let three = details.three;
-    let four = details.four;
-    println!(rt; " refused={number},{one},{two},{three},{four}")?;
-    Ok(())
-}
-
 fn print_reply(rt: &HostRuntime, reply: Reply) -> anyhow::Result<()> {
     match reply {
-        Reply::Entered(position) => println!(rt; " granted={position}")?,
-        Reply::Claimed(sets) => println!(rt; " granted={sets}")?,
-        Reply::Released(sets) => println!(rt; " granted={sets}")?,
-        Reply::Free(units) => println!(rt; " granted={units}")?,
-        Reply::Total(parts) => println!(rt; " granted={parts}")?,
-        Reply::Certified(Certificate { total, floor }) => println!(rt; " granted={total},{floor}")?,
-        Reply::Refused(refusal) => print_refusal(rt, refusal)?,
+        Ok(Granted::Entered(position)) => println!(rt; " granted={position}")?,
+        Ok(Granted::Claimed(sets)) => println!(rt; " granted={sets}")?,
+        Ok(Granted::Released(sets)) => println!(rt; " granted={sets}")?,
+        Ok(Granted::Free(units)) => println!(rt; " granted={units}")?,
+        Ok(Granted::Total(parts)) => println!(rt; " granted={parts}")?,
+        Ok(Granted::Certified(Certificate { total, floor })) => {
+            println!(rt; " granted={total},{floor}")?
+        }
+        Err(refusal) => println!(rt; " refused={refusal}")?,
     }
     Ok(())
 }
@@ -111,7 +101,7 @@ fn print_reply(rt: &HostRuntime, reply: Reply) -> anyhow::Result<()> {
 // Opens a docket over the sample sheet, serves the calls and prints them.
 fn serve_and_print(rt: &HostRuntime, what: &str, size: u64, calls: &[Call]) -> anyhow::Result<()> {
     println!(rt; "{what}")?;
-    let mut replies = vec![in rt.alloc(); Reply::Total(0); calls.len()]?;
+    let mut replies = vec![in rt.alloc(); Ok(Granted::Total(0)); calls.len()]?;
     match run(
         Sheet::Share(sample_sheet()),
         size,
@@ -126,8 +116,8 @@ fn serve_and_print(rt: &HostRuntime, what: &str, size: u64, calls: &[Call]) -> a
             Ok(())
         }
         Err(refusal) => {
-            print!(rt; "open={size}")?;
-            print_refusal(rt, refusal)
+            println!(rt; "open={size} refused={refusal}")?;
+            Ok(())
         }
     }
 }
@@ -210,14 +200,14 @@ fn refusals(rt: &HostRuntime) -> anyhow::Result<()> {
 // Sixteen calls of either side: the full list of positions, and then sixty-four lines of spreads.
 fn limits(heap: Global) -> Result<Vec<Call<'static>>, AllocError> {
     let mut calls = Vec::new(heap);
-    for i in 0..16u64 {
-        calls.push(entry('L', 'C', i + 1, 0, 0, 10))?;
-        calls.push(entry('S', 'C', i + 1, 0, 0, 10))?;
+    for strike in 1..=16u64 {
+        calls.push(entry('L', 'C', strike, 0, 0, 10))?;
+        calls.push(entry('S', 'C', strike, 0, 0, 10))?;
     }
     calls.push(entry('L', 'U', 0, 0, 0, 1))?;
-    for i in 0..8u64 {
-        for j in 0..8u64 {
-            calls.push(Call::Claim(claim_of(1, i * 2 + 1, j * 2 + 2, 0, 1)))?;
+    for long in (1..=15u64).step_by(2) {
+        for short in (2..=16u64).step_by(2) {
+            calls.push(Call::Claim(claim_of(1, long, short, 0, 1)))?;
         }
     }
     calls.push(Call::Claim(claim_of(1, 1, 18, 0, 1)))?;

@@ -1,5 +1,5 @@
 -- The reply to each call, and the tally after it, from the contract size, the book's tables and the tally before.
-use Rattle.std.specs.Prelude.{ℕ, ◌+◌, ◌-◌, ◌*◌, Bool, true, false, cond, not, ◌||◌, List, [], ◌∷◌, ◌++◌, length, get_or, take, drop, ℤ, Some, None, Ok, Err, Option, Result, ◌==◌, nat_le, nat_lt, slice_index_or, slice_set}
+use Rattle.std.specs.Prelude.{ℕ, ◌+◌, ◌-◌, ◌*◌, Bool, true, false, cond, not, ◌||◌, List, [], ◌∷◌, ◌++◌, length, get_or, remove, ℤ, Some, None, Ok, Err, Option, Result, ◌==◌, nat_le, nat_lt, slice_index_or, slice_set}
 use Rattle.std.specs.Result.{result_map_both}
 use Rattle.amounts.specs.Ranges.{inside}
 use Rattle.positions.specs.declared.Entry.{Entry}
@@ -164,7 +164,7 @@ release_reply y c = unless (inside 1 5000 c.sets) SetsOutOfRange (release_from y
 -- so many sets left in the line; at 0 the line goes and later lines move up
 abbrev pub left : List Claim → Option ℕ → ℕ → List Claim
 left claims None n = claims
-left claims (Some i) n = cond (n == 0) (take i claims ++ drop (i + 1) claims) (slice_set claims i (with_sets (slice_index_or claims i no_claim) n))
+left claims (Some i) n = cond (n == 0) (remove claims i) (slice_set claims i (with_sets (slice_index_or claims i no_claim) n))
 
 -- a granted release takes its sets off its line
 abbrev pub released : Tally → Claim → Result ℕ Refusal → Tally

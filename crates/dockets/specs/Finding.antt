@@ -1,13 +1,8 @@
 -- Finding a position or a line that is like another.
-use Rattle.std.specs.Prelude.{ℕ, ◌+◌, Bool, cond, ◌&&◌, List, [], ◌∷◌, Some, None, Option, ◌==◌}
+use Rattle.std.specs.Prelude.{ℕ, Bool, ◌&&◌, List, Option, ◌==◌, position}
 use Rattle.positions.specs.declared.record.Record.{Record}
 use Rattle.positions.specs.Kinds.{same_side, same_kind}
 use Rattle.pairing.specs.declared.Claim.{Claim}
-
--- the place of the first that passes, counted from i
-abbrev pub first_at : {X : Type 0} → (X → Bool) → ℕ → List X → Option ℕ
-first_at test i [] = None
-first_at test i (x ∷ xs) = cond (test x) (Some i) (first_at test (i + 1) xs)
 
 -- side, kind, strike and days all alike
 abbrev pub like_position : Record → Record → Bool
@@ -19,8 +14,8 @@ like_claim c x = x.article == c.article && (x.first == c.first && (x.second == c
 
 -- the place of the position held already
 abbrev pub position_like : List Record → Record → Option ℕ
-position_like held r = first_at (like_position r) 0 held
+position_like held r = position (like_position r) held
 
 -- the place of the claim's line
 abbrev pub line_like : List Claim → Claim → Option ℕ
-line_like claims c = first_at (like_claim c) 0 claims
+line_like claims c = position (like_claim c) claims

@@ -1,4 +1,5 @@
 pub mod Refusals
+pub mod Texts
 pub mod Tally
 pub mod Finding
 pub mod Calls

@@ -14,6 +14,7 @@ use crate::judging::{
 };
 use crate::state::State;
 use amounts::ContractSize;
+use arrayvec::ArrayVec;
 use articles::Leg;
 use books::Book;
 use certificate::Certificate;
@@ -25,13 +26,13 @@ impl<B: Book + Drop> Docket<B> {
     pub fn open(book: B, size: u64) -> Result<Docket<B>, Refusal>
         ensures { elim result [ Ok d ↦ (inside 1 1000 size ≡ true) × (d.book ≡ book) × (d.state.size.units ≡ size) × (tally_in d.state ≡ empty) | Err e ↦ (inside 1 1000 size ≡ false) × (e ≡ Refusal.SizeOutOfRange) ] }
     {
-        let Some(size) = ContractSize::new(size) else {
-            return Err(Refusal::SizeOutOfRange);
+        let size = ContractSize::new(size).ok_or(Refusal::SizeOutOfRange)?;
+        let state = State {
+            size,
+            held: ArrayVec::new(),
+            lines: ArrayVec::new(),
         };
-        Ok(Docket {
-            book,
-            state: State::new(size),
-        })
+        Ok(Docket { book, state })
     }
 
     // Enters a position and answers its number.
@@ -45,12 +46,9 @@ impl<B: Book + Drop> Docket<B> {
         if let Some(i) = find_position(self.state.positions(), &record) {
             return Err(Refusal::AlreadyHeld(i + 1));
         }
-        let count = self.state.positions().len();
-        if count >= 32 {
-            return Err(Refusal::PositionsFull);
-        }
-        self.state.add(record);
-        Ok(count + 1)
+        let held = &mut self.state.held;
+        held.try_push(record).map_err(|_| Refusal::PositionsFull)?;
+        Ok(held.len())
     }
 
     // All that can refuse a claim before its line is looked for.
@@ -77,11 +75,8 @@ impl<B: Book + Drop> Docket<B> {
         let place = find_line(self.state.claims(), c);
         let sets = line_sets(self.state.claims(), place, c)?;
         match place {
-            None => self.state.push(Claim { sets, ..*c }),
-            Some(i) => {
-                let line = self.state.claims()[i];
-                self.state.replace(i, Claim { sets, ..line });
-            }
+            None => self.state.lines.push(Claim { sets, ..*c }),
+            Some(i) => self.state.lines[i].sets = sets,
         }
         Ok(sets)
     }
@@ -98,10 +93,9 @@ impl<B: Book + Drop> Docket<B> {
         let sets = sets_left(self.state.claims(), place, c)?;
         if let Some(i) = place {
             if sets == 0 {
-                self.state.remove(i);
+                self.state.lines.remove(i);
             } else {
-                let line = self.state.claims()[i];
-                self.state.replace(i, Claim { sets, ..line });
+                self.state.lines[i].sets = sets;
             }
         }
         Ok(sets)

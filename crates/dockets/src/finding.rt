@@ -5,16 +5,18 @@ ghost use Rattle.dockets.specs.Finding.{like_position, like_claim, position_like
 use pairing::Claim;
 use positions::Record;
 
+// Alike whatever the price and the quantity.
 fn like_position(r: &Record, x: &Record) -> bool
     ensures { result ≡ like_position r.now x.now }
 {
-    x.side == r.side && x.kind == r.kind && x.strike == r.strike && x.days == r.days
+    (x.side, x.kind, x.strike, x.days) == (r.side, r.kind, r.strike, r.days)
 }
 
+// Alike whatever the sets.
 fn like_claim(c: &Claim, x: &Claim) -> bool
     ensures { result ≡ like_claim c.now x.now }
 {
-    x.article == c.article && x.first == c.first && x.second == c.second && x.third == c.third
+    (x.article, x.first, x.second, x.third) == (c.article, c.first, c.second, c.third)
 }
 
 // The place of the position like `r`, from 0.
@@ -22,12 +24,7 @@ pub fn find_position(held: &[Record], r: &Record) -> Option<usize>
     ensures value { result ≡ position_like held.now r.now }
     ensures bound { IfSome result (λ i. i < length held.now) }
 {
-    for (i, x) in held.iter().enumerate() {
-        if like_position(r, x) {
-            return Some(i);
-        }
-    }
-    None
+    held.iter().position(|x| like_position(r, x))
 }
 
 // The place of the line like `c`, from 0.
@@ -35,10 +32,5 @@ pub fn find_line(claims: &[Claim], c: &Claim) -> Option<usize>
     ensures value { result ≡ line_like claims.now c.now }
     ensures bound { IfSome result (λ i. i < length claims.now) }
 {
-    for (i, x) in claims.iter().enumerate() {
-        if like_claim(c, x) {
-            return Some(i);
-        }
-    }
-    None
+    claims.iter().position(|x| like_claim(c, x))
 }

@@ -2,7 +2,7 @@
 #![tactic(auto)]
 
 ghost use Rattle.std.specs.Prelude.{◌≡◌};
-ghost use Rattle.dockets.specs.Refusals.{refusal_number, refusal_details, from_record, from_book, from_certify, four_of};
+ghost use Rattle.dockets.specs.Refusals.{refusal_number, refusal_details, from_record, from_book, from_certify};
 
 mod calls;
 mod docket;
@@ -10,6 +10,7 @@ mod finding;
 mod judging;
 mod looking;
 mod state;
+mod texts;
 
 use articles::Leg;
 use books::BookFault;
@@ -35,13 +36,13 @@ pub enum Refusal {
     ClaimTooLarge,
     NoSuchClaim,
     MoreThanClaimed,
-    NotOneEach(usize, usize),
+    NotOneEach { given: usize, held: usize },
     BeyondLimit(usize),
     Unfair(Breach),
 }
 
 // What is returned with a refusal's number; a detail that it has not is 0.
-#[derive(Clone, Copy)]
+#[derive(Clone, Copy, Default)]
 pub struct Details {
     pub one: usize,
     pub two: usize,
@@ -78,22 +79,10 @@ impl From<CertifyFault> for Refusal {
         ensures { result ≡ from_certify value }
     {
         match value {
-            CertifyFault::NotOneEach { given, held } => Refusal::NotOneEach(given, held),
+            CertifyFault::NotOneEach { given, held } => Refusal::NotOneEach { given, held },
             CertifyFault::BeyondLimit(position) => Refusal::BeyondLimit(position),
             CertifyFault::Unfair(breach) => Refusal::Unfair(breach),
         }
-    }
-}
-
-// Details of a refusal that names one number.
-fn one(n: usize) -> Details
-    ensures { result ≡ four_of n 0 0 0 }
-{
-    Details {
-        one: n,
-        two: 0,
-        three: 0,
-        four: 0,
     }
 }
 
@@ -117,7 +106,7 @@ impl Refusal {
             Refusal::ClaimTooLarge => 12,
             Refusal::NoSuchClaim => 13,
             Refusal::MoreThanClaimed => 14,
-            Refusal::NotOneEach(_, _) => 15,
+            Refusal::NotOneEach { .. } => 15,
             Refusal::BeyondLimit(_) => 16,
             Refusal::Unfair(_) => 17,
         }
@@ -128,29 +117,32 @@ impl Refusal {
         ensures { result ≡ refusal_details self }
     {
         match self {
-            Refusal::FieldOutOfRange(field) => one(field.number() as usize),
-            Refusal::AlreadyHeld(position) => one(position),
-            Refusal::NoSuchPosition(leg) => one(leg.number() as usize),
-            Refusal::PositionTwice(leg) => one(leg.number() as usize),
+            Refusal::FieldOutOfRange(field) => Details {
+                one: field.number() as usize,
+                ..Details::default()
+            },
+            Refusal::AlreadyHeld(position) | Refusal::BeyondLimit(position) => Details {
+                one: position,
+                ..Details::default()
+            },
+            Refusal::NoSuchPosition(leg) | Refusal::PositionTwice(leg) | Refusal::UnitsShort(leg) =>
+                Details {
+                    one: leg.number() as usize,
+                    ..Details::default()
+                },
             Refusal::BookRefuses(fault) => Details {
                 one: fault.cause as usize,
                 two: fault.leg_number() as usize,
-                three: 0,
-                four: 0,
+                ..Details::default()
             },
-            Refusal::UnitsShort(leg) => one(leg.number() as usize),
-            Refusal::NotOneEach(given, held) => Details {
+            Refusal::NotOneEach { given, held } => Details {
                 one: given,
                 two: held,
-                three: 0,
-                four: 0,
+                ..Details::default()
             },
-            Refusal::BeyondLimit(position) => one(position),
             Refusal::Unfair(Breach::Alone { position }) => Details {
-                one: 0,
                 two: position as usize,
-                three: 0,
-                four: 0,
+                ..Details::default()
             },
             Refusal::Unfair(
                 Breach::Set {
@@ -165,14 +157,14 @@ impl Refusal {
                 three: second as usize,
                 four: third.map_or(0, |third| third as usize),
             },
-            Refusal::SizeOutOfRange => one(0),
-            Refusal::PositionsFull => one(0),
-            Refusal::NoSuchArticle => one(0),
-            Refusal::SetsOutOfRange => one(0),
-            Refusal::ClaimsFull => one(0),
-            Refusal::ClaimTooLarge => one(0),
-            Refusal::NoSuchClaim => one(0),
-            Refusal::MoreThanClaimed => one(0),
+            Refusal::SizeOutOfRange
+            | Refusal::PositionsFull
+            | Refusal::NoSuchArticle
+            | Refusal::SetsOutOfRange
+            | Refusal::ClaimsFull
+            | Refusal::ClaimTooLarge
+            | Refusal::NoSuchClaim
+            | Refusal::MoreThanClaimed => Details::default(),
         }
     }
 }

@@ -18,7 +18,7 @@ use Rattle.runs.specs.declared.Call.{Call}
 use Rattle.runs.specs.declared.Call.TheVariants.{Enter, Claim as ClaimCall}
 use Rattle.runs.specs.Runs.{after}
 use Rattle.runs.specs.Laws.{Led}
-use Rattle.runs.proofs.Granted.{unless_ok}
+use Rattle.runs.proofs.Passed.{unless_ok}
 use Rattle.runs.proofs.Prefixes.{ran_push}
 use Rattle.replays.proofs.Records.{made}
 use Rattle.text.specs.declared.BadField.{BadField}

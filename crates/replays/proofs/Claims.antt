@@ -13,13 +13,14 @@ use Rattle.dockets.specs.Tally.{Tally}
 use Rattle.dockets.specs.Finding.{line_like}
 use Rattle.dockets.specs.Calls.{Verdict, good, unless, if_good, article_ok, third_ok, positions_ok, apart_ok, book_ok, covers, covered_ok, line_reply, claim_judged, claim_reply, claimed, put}
 use Rattle.runs.specs.Laws.{Holds}
+use Rattle.runs.proofs.Passed.{two_legs, three_legs}
 use Rattle.replays.specs.Replay.{holding, ClaimsAgain}
 use Rattle.replays.proofs.Lines.{Lines, fresh, sets_there, Standing}
 
 -- ---- what the lines take
 
 takes_leg : (s : ℕ) (held : List Record) (qs : List ℕ) (p : ℕ) → among p qs ≡ true → lot s held p ≤ takes s held qs p
-takes_leg s held [] p h = let z : ◌≡◌ {A = ℕ} 0 1 = cc in absurd (let w : ⊥ = omega arith in w)
+takes_leg s held [] p h = cc
 takes_leg s held (q ∷ qs) p h =
     ⊎_elim
     (λ e.
@@ -69,12 +70,6 @@ go_on v r x h k = ap (λ (z : Verdict). if_good z r) h ∙ k
 
 in_range_lem : (n p : ℕ) → (1 ≤ p) × (p ≤ n) → inside 1 n p ≡ true
 in_range_lem n p h = and_from (leb 1 p) (leb p n) (le-leb 1 p h.0) (le-leb p n h.1)
-
-two_legs : (c : Claim) → c.third ≡ 0 → legs_of c ≡ c.first ∷ c.second ∷ []
-two_legs c e = cond-true (eqb c.third 0) (c.first ∷ c.second ∷ []) (c.first ∷ c.second ∷ c.third ∷ []) (eq-eqb c.third 0 e)
-
-three_legs : (c : Claim) → (c.third ≡ 0 → ⊥) → legs_of c ≡ c.first ∷ c.second ∷ c.third ∷ []
-three_legs c e = cond-false (eqb c.third 0) (c.first ∷ c.second ∷ []) (c.first ∷ c.second ∷ c.third ∷ []) (ne_eqb c.third 0 e)
 
 -- what the legs of a claim keep to
 record Legs (count legs : ℕ) (c : Claim) : Type 0 where
@@ -178,7 +173,7 @@ module _ (t : Tables) (law : Lawful t) (s : ℕ) (held : List Record) (before : 
   claims_again h k few =
       let a = allowed_there t s held before c others h.allowed in
       let l = legs t s held c a in
-      let none = fresh before c others 0 k.lines in
+      let none = fresh before c others k.lines in
       let room : length before < 64 = omega (arith, k.few, length-append before (c ∷ others)) in
       let sets = sets_there before c others k.lines in
       let reply : claim_reply t s y c ≡ Ok c.sets =

@@ -10,7 +10,7 @@ use Rattle.dockets.specs.declared.Refusal.{Refusal}
 use Rattle.dockets.specs.Tally.{Tally}
 use Rattle.dockets.specs.Finding.{position_like}
 use Rattle.dockets.specs.Calls.{enter_as, entering, enter_reply, entered}
-use Rattle.runs.proofs.Granted.{unless_ok}
+use Rattle.runs.proofs.Passed.{unless_ok}
 use Rattle.replays.specs.Entries.{entry_of}
 use Rattle.replays.specs.Replay.{holding, EntersAgain}
 use Rattle.replays.proofs.Records.{made}
@@ -34,7 +34,7 @@ module _ (size : ℕ) where
 
 -- a granted enter has the next number, of 32 at most
 number : (held : List Record) (o : Option ℕ) (n : ℕ) → enter_as held o ≡ Ok n → (length held < 32) × (n ≡ length held + 1)
-number held (Some i) n h = let z : ◌≡◌ {A = ℕ} 0 1 = cc in absurd (let w : ⊥ = omega arith in w)
+number held (Some i) n h = cc
 number held None n h =
     let parts = unless_ok (ltb (length held) 32) _ _ n h in
     let same = parts.1 in

@@ -1,6 +1,8 @@
 -- Lines that are all unlike, each of 1 to 5,000 sets.
-use Rattle.std.proofs.Common.{◌≡◌, ℕ, zero, suc, ◌+◌, ◌-◌, ◌≤◌, Bool, true, false, cond, eqb, ltb, leb, List, [], ◌∷◌, ◌++◌, length, get_or, take, drop, set, Some, None, Ok, Err, Option, Result, sym, refl, ap, ◌∙◌, subst, add-one, arith, length-set}
+use Rattle.std.proofs.Common.{◌≡◌, ℕ, zero, suc, ◌+◌, ◌-◌, ◌≤◌, Bool, true, false, cond, eqb, ltb, leb, List, [], ◌∷◌, ◌++◌, length, get_or, remove, set, Some, None, Ok, Err, Option, Result, sym, refl, ap, ◌∙◌, subst, arith, length-set}
+use Rattle.std.specs.List.{position_from}
 use Rattle.std.proofs.lemmas.List.{length_push}
+use Rattle.std.proofs.lemmas.Iterator.Adapters.{position_from-zero}
 use Rattle.std.proofs.lemmas.Bool.{and_parts, eqb-false, leb-true, ltb-true}
 use Rattle.amounts.specs.Ranges.{inside}
 use Rattle.books.specs.Tables.{Tables}
@@ -8,9 +10,9 @@ use Rattle.pairing.specs.declared.Claim.{Claim}
 use Rattle.pairing.specs.Kept.{no_claim, with_sets}
 use Rattle.dockets.specs.declared.Refusal.{Refusal}
 use Rattle.dockets.specs.Tally.{Tally}
-use Rattle.dockets.specs.Finding.{first_at, like_claim, line_like}
+use Rattle.dockets.specs.Finding.{like_claim, line_like}
 use Rattle.dockets.specs.Calls.{Verdict, good, if_good, article_ok, claim_judged, line_reply, claim_reply, put, claimed, release_from, release_reply, left, released}
-use Rattle.runs.proofs.Granted.{unless_ok}
+use Rattle.runs.proofs.Passed.{unless_ok, if_good_ok}
 
 -- none of the lines is like the one before them
 abbrev Unlike : Claim → List Claim → Type 0
@@ -43,19 +45,19 @@ lines_set (x ∷ ls) (suc i) n k h = (h.0, unlike_set x ls i n h.1, lines_set ls
 
 -- ---- a line less
 
-unlike_less : (c : Claim) (ls : List Claim) (i : ℕ) → Unlike c ls → Unlike c (take i ls ++ drop (suc i) ls)
+unlike_less : (c : Claim) (ls : List Claim) (i : ℕ) → Unlike c ls → Unlike c (remove ls i)
 unlike_less c [] zero h = tt
 unlike_less c [] (suc i) h = tt
 unlike_less c (x ∷ ls) zero h = h.1
 unlike_less c (x ∷ ls) (suc i) h = (h.0, unlike_less c ls i h.1)
 
-lines_less : (ls : List Claim) (i : ℕ) → Lines ls → Lines (take i ls ++ drop (suc i) ls)
+lines_less : (ls : List Claim) (i : ℕ) → Lines ls → Lines (remove ls i)
 lines_less [] zero h = tt
 lines_less [] (suc i) h = tt
 lines_less (x ∷ ls) zero h = h.2
 lines_less (x ∷ ls) (suc i) h = (h.0, unlike_less x ls i h.1, lines_less ls i h.2)
 
-length_less : (ls : List Claim) (i : ℕ) → length (take i ls ++ drop (suc i) ls) ≤ length ls
+length_less : (ls : List Claim) (i : ℕ) → length (remove ls i) ≤ length ls
 length_less [] zero = omega arith
 length_less [] (suc i) = omega arith
 length_less (x ∷ ls) zero = omega arith
@@ -64,17 +66,17 @@ length_less (x ∷ ls) (suc i) = let rest = length_less ls i in omega arith
 -- ---- a line more
 
 no_first : (b : Bool) (i : ℕ) (o : Option ℕ) → cond b (Some i) o ≡ None → (b ≡ false) × (o ≡ None)
-no_first true i o h = let z : ◌≡◌ {A = ℕ} 0 1 = cc in absurd (let w : ⊥ = omega arith in w)
+no_first true i o h = cc
 no_first false i o h = (refl, h)
 
 unlike_push : (c : Claim) (ls : List Claim) (l : Claim) → Unlike c ls → like_claim l c ≡ false → Unlike c (ls ++ (l ∷ []))
 unlike_push c [] l h k = (k, tt)
 unlike_push c (x ∷ ls) l h k = (h.0, unlike_push c ls l h.1 k)
 
-lines_push : (ls : List Claim) (l : Claim) (i : ℕ) → Ranged l.sets → first_at (like_claim l) i ls ≡ None → Lines ls → Lines (ls ++ (l ∷ []))
+lines_push : (ls : List Claim) (l : Claim) (i : ℕ) → Ranged l.sets → position_from (like_claim l) i ls ≡ None → Lines ls → Lines (ls ++ (l ∷ []))
 lines_push [] l i k f h = (k, tt, tt)
 lines_push (x ∷ ls) l i k f h =
-    let none = no_first (like_claim l x) i (first_at (like_claim l) (i + 1) ls) f in
+    let none = no_first (like_claim l x) i (position_from (like_claim l) (i + 1) ls) f in
     (h.0, unlike_push x ls l h.1 none.0, lines_push ls l (i + 1) k none.1 h.2)
 
 -- ---- what is so of a line
@@ -84,11 +86,14 @@ unlike_there c [] l others h = h.0
 unlike_there c (b ∷ before) l others h = unlike_there c before l others h.1
 
 -- no line before it is like it
-pub fresh : (before : List Claim) (c : Claim) (others : List Claim) (i : ℕ) → Lines (before ++ (c ∷ others)) → first_at (like_claim c) i before ≡ None
-fresh [] c others i h = refl
-fresh (b ∷ before) c others i h =
-    ap (λ (x : Bool). cond x (Some i) (first_at (like_claim c) (i + 1) before)) (unlike_there b before c others h.1)
-    ∙ fresh before c others (i + 1) h.2
+none_before : (before : List Claim) (c : Claim) (others : List Claim) (i : ℕ) → Lines (before ++ (c ∷ others)) → position_from (like_claim c) i before ≡ None
+none_before [] c others i h = refl
+none_before (b ∷ before) c others i h =
+    ap (λ (x : Bool). cond x (Some i) (position_from (like_claim c) (i + 1) before)) (unlike_there b before c others h.1)
+    ∙ none_before before c others (i + 1) h.2
+
+pub fresh : (before : List Claim) (c : Claim) (others : List Claim) → Lines (before ++ (c ∷ others)) → line_like before c ≡ None
+fresh before c others h = position_from-zero (like_claim c) before ∙ none_before before c others 0 h
 
 pub sets_there : (before : List Claim) (c : Claim) (others : List Claim) → Lines (before ++ (c ∷ others)) → (1 ≤ c.sets) × (c.sets ≤ 5000)
 sets_there [] c others h = h.0
@@ -106,13 +111,6 @@ pub record Standing (ls : List Claim) : Type 0 where
   pub lines : Lines ls
   pub few : length ls ≤ 64
 
-if_good_ok : {A : Type 0} (v : Verdict) (r : Result A Refusal) (x : A) → if_good v r ≡ Ok x → (v ≡ good) × (r ≡ Ok x)
-if_good_ok (Ok tt) r x h = (refl, h)
-if_good_ok (Err e) r x h = let z : ◌≡◌ {A = ℕ} 0 1 = cc in absurd (let w : ⊥ = omega arith in w)
-
-same_number : (m n : ℕ) → ◌≡◌ {A = Result ℕ Refusal} (Ok m) (Ok n) → m ≡ n
-same_number m n h = cc
-
 ranged_sets : (n : ℕ) → inside 1 5000 n ≡ true → Ranged n
 ranged_sets n h = let parts = and_parts (leb 1 n) (leb n 5000) h in (leb-true 1 n parts.0, leb-true n 5000 parts.1)
 
@@ -120,13 +118,15 @@ put_keeps : (ls : List Claim) (c : Claim) (n : ℕ) (o : Option ℕ) → Ranged 
 put_keeps ls c n None k found e h =
     let parts = unless_ok (ltb (length ls) 64) _ _ n e in
     let room = ltb-true (length ls) 64 parts.0 in
-    subst (λ (m : ℕ). Standing (ls ++ (with_sets c m ∷ []))) (same_number c.sets n parts.1)
-    (record { lines = lines_push ls c 0 k found h.lines; few = omega (arith, length_push ls c) })
+    let is : c.sets ≡ n = cc in
+    subst (λ (m : ℕ). Standing (ls ++ (with_sets c m ∷ []))) is
+    (record { lines = lines_push ls c 0 k (sym (position_from-zero (like_claim c) ls) ∙ found) h.lines; few = omega (arith, length_push ls c) })
 put_keeps ls c n (Some i) k found e h =
     let sum = (get_or ls i no_claim).sets + c.sets in
     let parts = unless_ok (leb sum 5000) _ _ n e in
     let fits = leb-true sum 5000 parts.0 in
-    let is = same_number sum n parts.1 in
+    let got = parts.1 in
+    let is : sum ≡ n = cc in
     record { lines = lines_set ls i n (omega arith, omega arith) h.lines; few = omega (arith, length-set ls i (with_sets (get_or ls i no_claim) n)) }
 
 pub claim_keeps : (t : Tables) (size : ℕ) (y : Tally) (c : Claim) (r : Result ℕ Refusal) → claim_reply t size y c ≡ r → Standing y.claims → Standing (claimed y c r).claims
@@ -138,10 +138,8 @@ claim_keeps t size y c (Ok n) e h =
     let d = unless_ok (inside 1 5000 c.sets) _ _ tt b.1 in
     put_keeps y.claims c n (line_like y.claims c) (ranged_sets c.sets d.0) refl g.1 h
 
-line_left : (ls : List Claim) (i n : ℕ) (gone : Bool) → n ≤ 5000 → eqb n 0 ≡ gone → Standing ls → Standing (cond gone (take i ls ++ drop (i + 1) ls) (set ls i (with_sets (get_or ls i no_claim) n)))
-line_left ls i n true k e h =
-    subst (λ (j : ℕ). Standing (take i ls ++ drop j ls)) (sym (add-one i))
-    (record { lines = lines_less ls i h.lines; few = omega (arith, length_less ls i) })
+line_left : (ls : List Claim) (i n : ℕ) (gone : Bool) → n ≤ 5000 → eqb n 0 ≡ gone → Standing ls → Standing (cond gone (remove ls i) (set ls i (with_sets (get_or ls i no_claim) n)))
+line_left ls i n true k e h = record { lines = lines_less ls i h.lines; few = omega (arith, length_less ls i) }
 line_left ls i n false k e h =
     let some = eqb-false n 0 e in
     record { lines = lines_set ls i n (omega arith, k) h.lines; few = omega (arith, length-set ls i (with_sets (get_or ls i no_claim) n)) }
@@ -149,7 +147,8 @@ line_left ls i n false k e h =
 left_keeps : (ls : List Claim) (c : Claim) (n : ℕ) (o : Option ℕ) → release_from ls o c ≡ Ok n → Standing ls → Standing (left ls o n)
 left_keeps ls c n None e h = h
 left_keeps ls c n (Some i) e h =
-    let is = same_number ((get_or ls i no_claim).sets - c.sets) n (unless_ok (leb c.sets (get_or ls i no_claim).sets) _ _ n e).1 in
+    let got = (unless_ok (leb c.sets (get_or ls i no_claim).sets) _ _ n e).1 in
+    let is : (get_or ls i no_claim).sets - c.sets ≡ n = cc in
     line_left ls i n (eqb n 0) (omega (arith, sets_high ls i h.lines)) refl h
 
 pub release_keeps : (y : Tally) (c : Claim) (r : Result ℕ Refusal) → release_reply y c ≡ r → Standing y.claims → Standing (released y c r).claims

@@ -24,7 +24,7 @@ side_step c n s o rest false t l next e = next e
 side_letter_lem : (c : ℕ) (s : Side) → side_of c ≡ Some s → c ≡ side_letter s
 side_letter_lem c s e =
     side_step c 76 Long s (cond (eqb c 83) (Some Short) None) (eqb c 76) refl refl
-    (side_step c 83 Short s None (eqb c 83) refl refl (λ z. let w : ◌≡◌ {A = ℕ} 0 1 = cc in absurd (let v : ⊥ = omega arith in v)))
+    (side_step c 83 Short s None (eqb c 83) refl refl (λ z. cc))
     e
 
 kind_step : (c n : ℕ) (k j : Kind) (rest : Option Kind) (b : Bool) → eqb c n ≡ b → n ≡ kind_letter k → (rest ≡ Some j → c ≡ kind_letter j) → cond b (Some k) rest ≡ Some j → c ≡ kind_letter j
@@ -37,22 +37,22 @@ kind_letter_lem c k e =
     (kind_step c 67 Call k _ (eqb c 67) refl refl
     (kind_step c 80 Put k _ (eqb c 80) refl refl
     (kind_step c 70 Futures k _ (eqb c 70) refl refl
-    (kind_step c 82 Receipt k None (eqb c 82) refl refl (λ z. let w : ◌≡◌ {A = ℕ} 0 1 = cc in absurd (let v : ⊥ = omega arith in v))))))
+    (kind_step c 82 Receipt k None (eqb c 82) refl refl (λ z. cc)))))
     e
 
 kept : (b : Bool) (j k : Kind) → cond b (Some j) None ≡ Some k → j ≡ k
 kept true j k e = cc
-kept false j k e = let z : ◌≡◌ {A = ℕ} 0 1 = cc in absurd (let w : ⊥ = omega arith in w)
+kept false j k e = cc
 
 on_side_lem : (side : Side) (o : Option Kind) (k : Kind) → on_side side o ≡ Some k → o ≡ Some k
-on_side_lem side None k e = let z : ◌≡◌ {A = ℕ} 0 1 = cc in absurd (let w : ⊥ = omega arith in w)
+on_side_lem side None k e = cc
 on_side_lem side (Some j) k e = let same = kept (sided side j) j k e in cc
 
 -- ---- numbers
 
 passed : (b : Bool) (v : Result (Unit {0}) RecordFault) (f : RecordFault) → cond b v (Err f) ≡ Ok tt → (b ≡ true) × (v ≡ Ok tt)
 passed true v f e = (refl, e)
-passed false v f e = let z : ◌≡◌ {A = ℕ} 0 1 = cc in absurd (let w : ⊥ = omega arith in w)
+passed false v f e = cc
 
 high : (r : Range) (n : ℕ) → holds r n ≡ true → n ≤ r.high
 high r n h = leb-true n r.high (and_parts (leb r.low n) (leb n r.high) h).1
@@ -126,14 +126,14 @@ module _ (size : ℕ) (few : size ≤ 1000) (e : Entry) (r : Record) where
 
   from_judged : (side : Side) (k : Kind) (v : Result (Unit {0}) RecordFault) → judged size e k ≡ v → e.side ≡ side_letter side → e.kind ≡ kind_letter k → ranged e side k v ≡ Ok r → Made e r
   from_judged side k (Ok tt) j s l h = from_range side k s l (small size few e k j) h
-  from_judged side k (Err f) j s l h = let z : ◌≡◌ {A = ℕ} 0 1 = cc in absurd (let w : ⊥ = omega arith in w)
+  from_judged side k (Err f) j s l h = cc
 
   from_kind : (side : Side) (o : Option Kind) → kind_for side e.kind ≡ o → e.side ≡ side_letter side → kinds_of size e side o ≡ Ok r → Made e r
-  from_kind side None k s h = let z : ◌≡◌ {A = ℕ} 0 1 = cc in absurd (let w : ⊥ = omega arith in w)
+  from_kind side None k s h = cc
   from_kind side (Some kind) k s h = from_judged side kind (judged size e kind) refl s (kind_letter_lem e.kind kind (on_side_lem side (kind_of e.kind) kind k)) h
 
   from_side : (o : Option Side) → side_of e.side ≡ o → sides_of size e o ≡ Ok r → Made e r
-  from_side None s h = let z : ◌≡◌ {A = ℕ} 0 1 = cc in absurd (let w : ⊥ = omega arith in w)
+  from_side None s h = cc
   from_side (Some side) s h = from_kind side (kind_for side e.kind) refl (side_letter_lem e.side side s) h
 
   pub made : record_of size e ≡ Ok r → Made e r

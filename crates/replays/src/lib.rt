@@ -7,9 +7,11 @@ ghost use Rattle.replays.specs.Replay.{Replay};
 
 use positions::{Entry, Record};
 
-// The fields of a record, as they are sent.
-fn fields(record: &Record) -> Entry
-    ensures { result ≡ entry_of «record».now }
+// The entry that makes a position again.
+// What a docket holds after any calls is granted again: its positions in their order and then its lines in theirs, each as it stands.
+pub fn entry_of(record: &Record) -> Entry
+    ensures value { result ≡ entry_of «record».now }
+    ensures again { Replay }
 {
     Entry {
         side: char::from(record.side),
@@ -19,13 +21,4 @@ fn fields(record: &Record) -> Entry
         price: record.price as u64,
         quantity: record.quantity as u64,
     }
-}
-
-// The entry that makes a position again.
-// What a docket holds after any calls is granted again: its positions in their order and then its lines in theirs, each as it stands.
-pub fn entry_of(record: &Record) -> Entry
-    ensures value { result ≡ entry_of «record».now }
-    ensures again { Replay }
-{
-    fields(record)
 }

@@ -1,5 +1,5 @@
 -- Every call leaves the claims sound, and what sound claims answer.
-use Rattle.std.proofs.Common.{◌≡◌, ℕ, ◌+◌, ◌-◌, Bool, true, false, cond, eqb, ltb, leb, List, [], ◌∷◌, ◌++◌, length, get_or, take, drop, set, Some, None, Ok, Err, Option, Result, sym, refl, ap, ◌∙◌, subst, arith}
+use Rattle.std.proofs.Common.{◌≡◌, ℕ, ◌+◌, ◌-◌, Bool, true, false, cond, eqb, ltb, leb, List, [], ◌∷◌, ◌++◌, length, get_or, remove, set, Some, None, Ok, Err, Option, Result, sym, refl, ap, ◌∙◌, subst, add-one, arith}
 use Rattle.std.proofs.lemmas.Bool.{and_from, le-leb}
 use Rattle.amounts.specs.Ranges.{inside}
 use Rattle.positions.specs.declared.RecordFault.{RecordFault}
@@ -26,10 +26,7 @@ use Rattle.runs.specs.declared.Call.TheVariants.{Enter, Claim as ClaimCall, Rele
 use Rattle.runs.specs.Runs.{after, ran}
 use Rattle.runs.specs.Laws.{Balanced, Holds, RunsHold}
 use Rattle.runs.proofs.Lines.{there}
-use Rattle.runs.proofs.Granted.{unless_ok, granted_claim}
-
-same_number : (m n : ℕ) → ◌≡◌ {A = Result ℕ Refusal} (Ok m) (Ok n) → m ≡ n
-same_number m n h = cc
+use Rattle.runs.proofs.Passed.{unless_ok, granted_claim}
 
 abbrev Fine : Tables → ℕ → Tally → Type 0
 Fine t s y = Sound t s y.held y.claims
@@ -39,11 +36,13 @@ Fine t s y = Sound t s y.held y.claims
 module _ (t : Tables) (law : Lawful t) (s : ℕ) where
   put_fine : (y : Tally) (c : Claim) (n : ℕ) (o : Option ℕ) → Allowed t s y.held (set_of c) → Covered s y.held y.claims (legs_of c) c.sets → line_like y.claims c ≡ o → line_reply y.claims o c ≡ Ok n → Fine t s y → Sound t s y.held (put y.claims o c n)
   put_fine y c n None a v found e h =
-      let is : c.sets ≡ n = same_number c.sets n (unless_ok (ltb (length y.claims) 64) _ _ n e).1 in
+      let got = (unless_ok (ltb (length y.claims) 64) _ _ n e).1 in
+      let is : c.sets ≡ n = cc in
       subst (λ (m : ℕ). Sound t s y.held (y.claims ++ (with_sets c m ∷ []))) is ((sound_kept t s).claims y.held y.claims c h a v)
   put_fine y c n (Some k) a v found e h =
       let line = there y.claims c k found in
-      let is = same_number ((get_or y.claims k no_claim).sets + c.sets) n (unless_ok (leb ((get_or y.claims k no_claim).sets + c.sets) 5000) _ _ n e).1 in
+      let got = (unless_ok (leb ((get_or y.claims k no_claim).sets + c.sets) 5000) _ _ n e).1 in
+      let is : (get_or y.claims k no_claim).sets + c.sets ≡ n = cc in
       subst (λ (m : ℕ). Sound t s y.held (put y.claims (Some k) c m)) is
       ((sound_kept t s).adds y.held y.claims k c.sets line.below h (subst (λ (qs : List ℕ). Covered s y.held y.claims qs c.sets) (sym line.same) v))
 
@@ -51,15 +50,16 @@ module _ (t : Tables) (law : Lawful t) (s : ℕ) where
   claim_fine y c (Ok n) e h = let g = granted_claim t law s y c n e in put_fine y c n (line_like y.claims c) g.allowed g.covered refl g.line h
   claim_fine y c (Err x) e h = h
 
-  line_left : (y : Tally) (k n : ℕ) (gone : Bool) → Sound t s y.held (set y.claims k (with_sets (get_or y.claims k no_claim) n)) → Fine t s y → Sound t s y.held (cond gone (take k y.claims ++ drop (k + 1) y.claims) (set y.claims k (with_sets (get_or y.claims k no_claim) n)))
-  line_left y k n true fewer h = (sound_kept t s).removes y.held y.claims k h
+  line_left : (y : Tally) (k n : ℕ) (gone : Bool) → Sound t s y.held (set y.claims k (with_sets (get_or y.claims k no_claim) n)) → Fine t s y → Sound t s y.held (cond gone (remove y.claims k) (set y.claims k (with_sets (get_or y.claims k no_claim) n)))
+  line_left y k n true fewer h = rw add-one at ((sound_kept t s).removes y.held y.claims k h)
   line_left y k n false fewer h = fewer
 
   left_fine : (y : Tally) (c : Claim) (n : ℕ) (o : Option ℕ) → line_like y.claims c ≡ o → release_from y.claims o c ≡ Ok n → Fine t s y → Sound t s y.held (left y.claims o n)
   left_fine y c n None found e h = h
   left_fine y c n (Some k) found e h =
       let line = there y.claims c k found in
-      let is = same_number ((get_or y.claims k no_claim).sets - c.sets) n (unless_ok (leb c.sets (get_or y.claims k no_claim).sets) _ _ n e).1 in
+      let got = (unless_ok (leb c.sets (get_or y.claims k no_claim).sets) _ _ n e).1 in
+      let is : (get_or y.claims k no_claim).sets - c.sets ≡ n = cc in
       line_left y k n (eqb n 0) ((sound_kept t s).releases y.held y.claims k n line.below (omega arith) h) h
 
   release_fine : (y : Tally) (c : Claim) (r : Result ℕ Refusal) → release_reply y c ≡ r → Fine t s y → Fine t s (released y c r)

@@ -1,4 +1,4 @@
 pub mod Lines
-pub mod Granted
+pub mod Passed
 pub mod Holding
 pub mod Prefixes

@@ -4,8 +4,7 @@ use Rattle.std.proofs.lemmas.List.{take_more, take_more_set}
 use Rattle.books.specs.Tables.{Tables, Lawful}
 use Rattle.dockets.specs.Tally.{Tally, empty}
 use Rattle.runs.specs.declared.Call.{Call}
-use Rattle.runs.specs.declared.Reply.{Reply}
-use Rattle.runs.specs.Runs.{reply_to, after, ran, replies}
+use Rattle.runs.specs.Runs.{Reply, reply_to, after, ran, replies}
 use Rattle.runs.specs.Laws.{Holds, Onward, served, Ran}
 use Rattle.runs.proofs.Holding.{runs_hold}
 

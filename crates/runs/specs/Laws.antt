@@ -7,8 +7,7 @@ use Rattle.certificate.specs.Certified.{certify_reply, Certified}
 use Rattle.dockets.specs.Tally.{Tally, empty}
 use Rattle.dockets.specs.Calls.{free_reply, total_reply}
 use Rattle.runs.specs.declared.Call.{Call}
-use Rattle.runs.specs.declared.Reply.{Reply}
-use Rattle.runs.specs.Runs.{ran, replies}
+use Rattle.runs.specs.Runs.{Reply, ran, replies}
 
 -- of a position: the free units answered, and those that the claims standing take, are together the units entered
 pub record Balanced (size : ℕ) (y : Tally) (p : ℕ) : Type 0 where

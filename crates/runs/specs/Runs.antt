@@ -1,27 +1,31 @@
 -- Replies and tallies of runs of calls.
-use Rattle.std.specs.Prelude.{ℕ, List, [], ◌∷◌, Ok, Err, Result}
+use Rattle.std.specs.Prelude.{ℕ, List, [], ◌∷◌, Ok, Result}
+use Rattle.std.specs.Result.{result_map_both}
 use Rattle.books.specs.Tables.{Tables}
 use Rattle.dockets.specs.declared.Refusal.{Refusal}
 use Rattle.dockets.specs.Tally.{Tally}
 use Rattle.dockets.specs.Calls.{enter_reply, after_enter, claim_reply, after_claim, release_reply, after_release, free_reply, total_reply, certificate_reply}
 use Rattle.runs.specs.declared.Call.{Call}
 use Rattle.runs.specs.declared.Call.TheVariants.{Enter, Claim, Release, Free, Total, Certify}
-use Rattle.runs.specs.declared.Reply.{Reply}
-use Rattle.runs.specs.declared.Reply.TheVariants as reply
+use Rattle.runs.specs.declared.Granted.{Granted}
+use Rattle.runs.specs.declared.Granted.TheVariants as granted
 
 -- what is granted, or the refusal
-abbrev pub told : {A : Type 0} → (A → Reply) → Result A Refusal → Reply
-told granted (Ok x) = granted x
-told granted (Err refusal) = reply.Refused refusal
+abbrev pub Reply : Type 0
+Reply = Result Granted Refusal
+
+-- a reply says of which call it is granted
+abbrev pub told : {A : Type 0} → (A → Granted) → Result A Refusal → Reply
+told of r = result_map_both of (λ e. e) r
 
 -- the reply to a call
 abbrev pub reply_to : Tables → ℕ → Tally → Call → Reply
-reply_to t size y (Enter e) = told reply.Entered (enter_reply size y e)
-reply_to t size y (Claim c) = told reply.Claimed (claim_reply t size y c)
-reply_to t size y (Release c) = told reply.Released (release_reply y c)
-reply_to t size y (Free p) = told reply.Free (free_reply size y p)
-reply_to t size y Total = reply.Total (total_reply t size y)
-reply_to t size y (Certify marks) = told reply.Certified (certificate_reply t size y marks.now)
+reply_to t size y (Enter e) = told granted.Entered (enter_reply size y e)
+reply_to t size y (Claim c) = told granted.Claimed (claim_reply t size y c)
+reply_to t size y (Release c) = told granted.Released (release_reply y c)
+reply_to t size y (Free p) = told granted.Free (free_reply size y p)
+reply_to t size y Total = Ok (granted.Total (total_reply t size y))
+reply_to t size y (Certify marks) = told granted.Certified (certificate_reply t size y marks.now)
 
 -- the tally after a call
 abbrev pub after : Tables → ℕ → Tally → Call → Tally

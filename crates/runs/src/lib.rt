@@ -24,17 +24,19 @@ pub enum Call<'a> {
     Certify(&'a [i64]),
 }
 
-// The reply to a call: what is granted, or the refusal.
+// What a call is granted.
 #[derive(Clone, Copy)]
-pub enum Reply {
+pub enum Granted {
     Entered(usize),
     Claimed(u64),
     Released(u64),
     Free(u32),
     Total(u128),
     Certified(Certificate),
-    Refused(Refusal),
 }
+
+// The reply to a call: what is granted, or the refusal.
+pub type Reply = Result<Granted, Refusal>;
 
 // One call, whichever it is.
 fn dispatch<B: Book + Drop>(docket: &mut Docket<B>, call: &Call) -> Reply
@@ -43,29 +45,14 @@ fn dispatch<B: Book + Drop>(docket: &mut Docket<B>, call: &Call) -> Reply
     ensures reply { result ≡ reply_to (B.Book.tables docket.old.book) docket.old.state.size.units (tally_in docket.old.state) call.now }
     ensures after { tally_in docket.new.state ≡ after (B.Book.tables docket.old.book) docket.old.state.size.units (tally_in docket.old.state) call.now }
 {
-    match call {
-        Call::Enter(entry) => match docket.enter(entry) {
-            Ok(position) => Reply::Entered(position),
-            Err(refusal) => Reply::Refused(refusal),
-        },
-        Call::Claim(claim) => match docket.claim(claim) {
-            Ok(sets) => Reply::Claimed(sets),
-            Err(refusal) => Reply::Refused(refusal),
-        },
-        Call::Release(claim) => match docket.release(claim) {
-            Ok(sets) => Reply::Released(sets),
-            Err(refusal) => Reply::Refused(refusal),
-        },
-        Call::Free(position) => match docket.free(*position) {
-            Ok(units) => Reply::Free(units),
-            Err(refusal) => Reply::Refused(refusal),
-        },
-        Call::Total => Reply::Total(docket.total()),
-        Call::Certify(marks) => match docket.certify(marks) {
-            Ok(certificate) => Reply::Certified(certificate),
-            Err(refusal) => Reply::Refused(refusal),
-        },
-    }
+    Ok(match call {
+        Call::Enter(entry) => Granted::Entered(docket.enter(entry)?),
+        Call::Claim(claim) => Granted::Claimed(docket.claim(claim)?),
+        Call::Release(claim) => Granted::Released(docket.release(claim)?),
+        Call::Free(position) => Granted::Free(docket.free(*position)?),
+        Call::Total => Granted::Total(docket.total()),
+        Call::Certify(marks) => Granted::Certified(docket.certify(marks)?),
+    })
 }
 
 // One call, whichever it is; and where calls led here from a docket just opened, all that should hold does after it.
@@ -86,10 +73,12 @@ fn serve_all<B: Book + Drop>(docket: &mut Docket<B>, calls: &[Call], places: &mu
     ensures book { docket.new.book ≡ docket.old.book }
     ensures size { docket.new.state.size ≡ docket.old.state.size }
 {
-    let n = calls.len().min(places.len());
-    for i in 0..n {
-        let reply = dispatch(docket, &calls[i]);
-        places[i] = reply;
+    let mut calls = calls.iter();
+    for place in places.iter_mut() {
+        let Some(call) = calls.next() else {
+            return;
+        };
+        *place = dispatch(docket, call);
     }
 }
 

@@ -1,5 +1,5 @@
 use Rattle.replays.proofs.Runs.{replay}
 use Rattle.replays.proofs.entry_of.Goals as goal
 
-pub returns : goal.returns
-returns c = record { value = c.fields.ensures; again = replay }
+pub returns-clause-again : goal.returns-clause-again
+returns-clause-again c = replay

@@ -1,54 +1,75 @@
-use Rattle.std.proofs.Common.{◌≡◌, ℕ, ◌<◌, List, ◌++◌, length, get_or, take, drop, sym, ap, ◌∙◌, arith}
-use Rattle.std.proofs.lemmas.List.{take-append-drop}
+use Rattle.std.proofs.Common.{◌≡◌, ℕ, ◌+◌, ◌<◌, ◌≤◌, List, ◌∷◌, ◌++◌, length, get_or, take, drop, sym, ap, ◌∙◌, arith, length-drop}
+use Rattle.std.proofs.lemmas.List.{take-append-drop, set-get_or, drop_more}
 use Rattle.amounts.specs.declared.contract_size.ContractSize.{ContractSize}
+use Rattle.books.specs.Tables.{Tables}
 use Rattle.dockets.specs.Dockets.{tally_in}
-use Rattle.runs.specs.declared.Call.TheVariants.{Enter}
-use Rattle.runs.specs.declared.Reply.{Reply}
-use Rattle.runs.specs.Runs.{ran, replies}
+use Rattle.dockets.specs.Tally.{Tally}
+use Rattle.runs.specs.declared.Call.{Call}
+use Rattle.runs.specs.Runs.{Reply, ran, replies}
 use Rattle.runs.specs.Laws.{served}
 use Rattle.runs.proofs.Prefixes.{ran_more, replies_more, places_more, after_same, reply_same}
 use Rattle.runs.proofs.serve_all.Goals as goal
 
-pub loop-i-preserved : goal.loop-i-preserved
-loop-i-preserved g c =
-    let d = c.args.docket.now in
-    let t = g.B.Book.tables d.book in
-    let s = d.state.size.units in
-    let y = tally_in d.state in
-    let i = c.loop-i.i in
-    let none = Enter (record { side = 0; kind = 0; strike = 0; days = 0; price = 0; quantity = 0 }) in
-    let k = get_or c.args.calls.now i none in
-    let inv = c.loop-i.invariant in
-    let size = ap (λ (n : ContractSize). n.units) inv.1 in
-    let here : i < length c.args.calls.now = omega (arith, c.min-n.ensures) in
-    let room : i < length c.loop-i.places = omega (arith, c.min-n.ensures) in
-    let z = tally_in c.dispatch-reply.new.docket.state in
-    let a = c.dispatch-reply.result in
-    let after = after_same g.B.Book.tables inv.0 size inv.2 k z c.dispatch-reply.ensures.after in
-    let reply = reply_same g.B.Book.tables inv.0 size inv.2 k a c.dispatch-reply.ensures.reply in (
-      c.dispatch-reply.ensures.book ∙ inv.0,
-      c.dispatch-reply.ensures.size ∙ inv.1,
-      ran_more t s y c.args.calls.now i none here z after,
-      replies_more t s y c.args.calls.now i none here c.loop-i.places a room inv.3 reply,
-      places_more c.loop-i.places c.args.places.now i a inv.4,
-    )
+-- what is left of a list begins with x
+turn : {X : Type 0} (xs rest : List X) (i : ℕ) (x : X) → drop i xs ≡ x ∷ rest → (i < length xs) × (x ≡ get_or xs i x) × (rest ≡ drop (i + 1) xs)
+turn xs rest i x e =
+    let long = length-drop i xs in
+    let same : length (drop i xs) ≡ length (x ∷ rest) = ap length e in
+    let below : i < length xs = omega arith in
+    let more = drop_more xs i x below in
+    (below, cc, cc)
 
-pub returns : goal.returns
-returns g c =
+all_served : (t : Tables) (s : ℕ) (y : Tally) (cs : List Call) (ps os : List Reply) (i : ℕ) → i ≡ served cs ps → take i os ≡ replies t s y (take i cs) → drop i os ≡ drop i ps → os ≡ replies t s y (take (served cs ps) cs) ++ drop (served cs ps) ps
+all_served t s y cs ps os i n e k = let whole = take-append-drop i os in cc
+
+pub loop-place-preserved : goal.loop-place-preserved
+loop-place-preserved g c =
     let d = c.args.docket.now in
+    let cs = c.args.calls.now in
     let t = g.B.Book.tables d.book in
     let s = d.state.size.units in
     let y = tally_in d.state in
-    let i = c.loop-i.i in
-    let inv = c.loop-i.invariant in
-    let all : i ≡ served c.args.calls.now c.args.places.now = omega (arith, c.min-n.ensures) in
+    let i = c.loop-place.place-index in
+    let k = c.in-Some.call.now in
+    let inv = c.loop-place.invariant in
+    let size = ap (λ (n : ContractSize). n.units) inv.size in
+    let next = turn cs _ i k (sym inv.rest ∙ c.in-Some.ensures.steps) in
+    let z = tally_in c.dispatch.new.docket.state in
+    let a = c.dispatch.result in
+    let after = after_same g.B.Book.tables inv.book size inv.tally k z c.dispatch.ensures.after in
+    let reply = reply_same g.B.Book.tables inv.book size inv.tally k a c.dispatch.ensures.reply in
     record {
-      replies =
-          sym (take-append-drop i c.loop-i.places)
-          ∙ ap (λ (w : List Reply). w ++ drop i c.loop-i.places) inv.3
-          ∙ ap (λ (w : List Reply). replies t s y (take i c.args.calls.now) ++ w) inv.4
-          ∙ ap (λ (n : ℕ). replies t s y (take n c.args.calls.now) ++ drop n c.args.places.now) all;
-      tally = inv.2 ∙ ap (λ (n : ℕ). ran t s y (take n c.args.calls.now)) all;
-      book = inv.0;
-      size = inv.1;
+      book = c.dispatch.ensures.book ∙ inv.book;
+      size = c.dispatch.ensures.size ∙ inv.size;
+      tally = ran_more t s y cs i k next.0 z cc;
+      replied = replies_more t s y cs i k next.0 c.loop-place.places a (omega arith) inv.replied cc;
+      kept = places_more c.loop-place.places c.args.places.now i a inv.kept;
+      rest = next.2;
+      few = omega (arith, next.0);
     }
+
+pub returns-in_default : goal.returns-in_default
+returns-in_default g c =
+    let d = c.args.docket.now in
+    let cs = c.args.calls.now in
+    let t = g.B.Book.tables d.book in
+    let s = d.state.size.units in
+    let y = tally_in d.state in
+    let inv = c.loop-place.invariant in
+    let os = c.loop-place.places in
+    let i = c.loop-place.place-index in
+    let none = ap length inv.rest in
+    let left = length-drop i cs in
+    let all : i ≡ served cs c.args.places.now = omega (arith, c.in_default.ensures.steps.0) in
+    record {
+      replies = set-get_or os i _ ∙ all_served t s y cs c.args.places.now os i all inv.replied inv.kept;
+      tally = inv.tally ∙ ap (λ (n : ℕ). ran t s y (take n cs)) all;
+      book = inv.book;
+      size = inv.size;
+    }
+
+pub returns-clause-replies : goal.returns-clause-replies
+returns-clause-replies g c =
+    let d = c.args.docket.now in
+    let inv = c.loop-place.invariant in
+    all_served (g.B.Book.tables d.book) d.state.size.units (tally_in d.state) c.args.calls.now c.args.places.now c.loop-place.places c.loop-place.place-index (omega arith) inv.replied inv.kept

@@ -19,25 +19,25 @@ use Rattle.dockets.specs.Calls.{Verdict, good, unless, if_good, article_ok, posi
 
 pub unless_ok : {A : Type 0} (b : Bool) (e : Refusal) (r : Result A Refusal) (x : A) → unless b e r ≡ Ok x → (b ≡ true) × (r ≡ Ok x)
 unless_ok true e r x h = (refl, h)
-unless_ok false e r x h = let z : ◌≡◌ {A = ℕ} 0 1 = cc in absurd (let w : ⊥ = omega arith in w)
+unless_ok false e r x h = cc
 
-if_good_ok : {A : Type 0} (v : Verdict) (r : Result A Refusal) (x : A) → if_good v r ≡ Ok x → (v ≡ good) × (r ≡ Ok x)
+pub if_good_ok : {A : Type 0} (v : Verdict) (r : Result A Refusal) (x : A) → if_good v r ≡ Ok x → (v ≡ good) × (r ≡ Ok x)
 if_good_ok (Ok tt) r x h = (refl, h)
-if_good_ok (Err e) r x h = let z : ◌≡◌ {A = ℕ} 0 1 = cc in absurd (let w : ⊥ = omega arith in w)
+if_good_ok (Err e) r x h = cc
 
 book_ok_lem : (a : Result ℕ BookFault) → book_ok a ≡ good → a ≡ Ok (amount a)
 book_ok_lem (Ok k) h = refl
-book_ok_lem (Err f) h = let z : ◌≡◌ {A = ℕ} 0 1 = cc in absurd (let w : ⊥ = omega arith in w)
+book_ok_lem (Err f) h = cc
 
 inside_from : (n p : ℕ) → inside 1 n p ≡ true → (1 ≤ p) × (p ≤ n)
 inside_from n p h = let parts = and_parts (leb 1 p) (leb p n) h in (leb-true 1 p parts.0, leb-true p n parts.1)
 
 -- ---- the legs
 
-two_legs : (c : Claim) → c.third ≡ 0 → legs_of c ≡ c.first ∷ c.second ∷ []
+pub two_legs : (c : Claim) → c.third ≡ 0 → legs_of c ≡ c.first ∷ c.second ∷ []
 two_legs c e = cond-true (eqb c.third 0) (c.first ∷ c.second ∷ []) (c.first ∷ c.second ∷ c.third ∷ []) (eq-eqb c.third 0 e)
 
-three_legs : (c : Claim) → (c.third ≡ 0 → ⊥) → legs_of c ≡ c.first ∷ c.second ∷ c.third ∷ []
+pub three_legs : (c : Claim) → (c.third ≡ 0 → ⊥) → legs_of c ≡ c.first ∷ c.second ∷ c.third ∷ []
 three_legs c e = cond-false (eqb c.third 0) (c.first ∷ c.second ∷ []) (c.first ∷ c.second ∷ c.third ∷ []) (ne_eqb c.third 0 e)
 
 apart_two : (i j : ℕ) → not (eqb j i) ≡ true → distinct (i ∷ j ∷ []) ≡ true
