@@ -5,7 +5,7 @@ use Rattle.std.specs.List.{position, position_from, zip}
 use Rattle.std.proofs.lemmas.Iterator.Adapters.{position_from-zero}
 use Rattle.std.proofs.lemmas.Slice.Zip.{length-zip, get_or-zip}
 use Rattle.positions.specs.declared.record.Record.{Record}
-use Rattle.pairing.specs.Pairing.{no_record, at, mark, limit}
+use Rattle.pairing.specs.Pairing.{no_record, limit}
 use Rattle.breaches.specs.Search.{first_of, or_else}
 use Rattle.certificate.specs.Certified.{beyond, beyond_at, first_beyond}
 

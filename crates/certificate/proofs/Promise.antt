@@ -25,7 +25,7 @@ use Rattle.certificate.specs.Certified.{Reply, beyond, beyond_at, first_beyond, 
 -- ---- limits
 
 cond_none : (b : Bool) (p : ℕ) → cond b (Some p) None ≡ None → b ≡ false
-cond_none true p h = let z : ◌≡◌ {A = ℕ} 0 1 = cc in absurd (let w : ⊥ = omega arith in w)
+cond_none true p h = cc
 cond_none false p h = refl
 
 none_cond : (b : Bool) (p : ℕ) → b ≡ false → cond b (Some p) None ≡ None
@@ -77,33 +77,27 @@ record One (b : Bool) (r : Reply) (c : Certificate) : Type 0 where
 
 passed : (b : Bool) (r : Reply) (e : CertifyFault) (c : Certificate) → cond b r (Err e) ≡ Ok c → One b r c
 passed true r e c h = record { test = refl; rest = h }
-passed false r e c h = let z : ◌≡◌ {A = ℕ} 0 1 = cc in absurd (let w : ⊥ = omega arith in w)
+passed false r e c h = cc
 
 in_limit : (o : Option ℕ) (r : Reply) (c : Certificate) → unless_beyond o r ≡ Ok c → (o ≡ None) × (r ≡ Ok c)
-in_limit (Some p) r c h = let z : ◌≡◌ {A = ℕ} 0 1 = cc in absurd (let w : ⊥ = omega arith in w)
+in_limit (Some p) r c h = cc
 in_limit None r c h = (refl, h)
 
 in_fairness : (o : Option Breach) (r : Reply) (c : Certificate) → unless_unfair o r ≡ Ok c → (o ≡ None) × (r ≡ Ok c)
-in_fairness (Some b) r c h = let z : ◌≡◌ {A = ℕ} 0 1 = cc in absurd (let w : ⊥ = omega arith in w)
+in_fairness (Some b) r c h = cc
 in_fairness None r c h = (refl, h)
-
-pub refused_unfair : (t : Tables) (s : ℕ) (held : List Record) (ls : List Claim) (ms : List ℤ) (b : Breach) → length ms ≡ length held → None ≡ first_beyond held ms → Some b ≡ first_breach t s held ms → Err (Unfair b) ≡ certify_reply t s held ls ms
-refused_unfair t s held ls ms b n limited unfair =
-    ap (λ (o : Option Breach). unless_unfair o (Ok (record { total = computed_total t s held ls; floor = floor held ms }))) unfair
-    ∙ ap (λ (o : Option ℕ). unless_beyond o (unless_unfair (first_breach t s held ms) (Ok (record { total = computed_total t s held ls; floor = floor held ms })))) limited
-    ∙ sym (cond-true (eqb (length ms) (length held)) _ (Err (NotOneEach (length ms) (length held))) (eq-eqb (length ms) (length held) n))
 
 past_marks : (x : Bool) (r : Reply) (m n : ℕ) (b : Breach) → cond x r (Err (NotOneEach m n)) ≡ Err (Unfair b) → r ≡ Err (Unfair b)
 past_marks true r m n b h = h
-past_marks false r m n b h = let z : ◌≡◌ {A = ℕ} 0 1 = cc in absurd (let w : ⊥ = omega arith in w)
+past_marks false r m n b h = cc
 
 past_limits : (o : Option ℕ) (r : Reply) (b : Breach) → unless_beyond o r ≡ Err (Unfair b) → r ≡ Err (Unfair b)
-past_limits (Some p) r b h = let z : ◌≡◌ {A = ℕ} 0 1 = cc in absurd (let w : ⊥ = omega arith in w)
+past_limits (Some p) r b h = cc
 past_limits None r b h = h
 
 breach_in : (o : Option Breach) (c : Certificate) (b : Breach) → unless_unfair o (Ok c) ≡ Err (Unfair b) → o ≡ Some b
 breach_in (Some x) c b h = cc
-breach_in None c b h = let z : ◌≡◌ {A = ℕ} 0 1 = cc in absurd (let w : ⊥ = omega arith in w)
+breach_in None c b h = cc
 
 same_certificate : (a b : Certificate) → ◌≡◌ {A = Reply} (Ok a) (Ok b) → a ≡ b
 same_certificate a b h = cc

@@ -137,13 +137,11 @@ impl<'a, B: Book> Account<'a, B> {
     fn line_amount(&self, l: &Claim) -> u64
         ensures { result ≡ line_amount (B.Book.tables self.now.book.now) self.now.standing.size.units self.now.standing.held.now l.now }
     {
-        if l.article < 1 || l.article > u64::from(self.book.articles()) {
-            return 0;
+        let known = (1..=u64::from(self.book.articles())).contains(&l.article);
+        if known && l.legs() == self.book.legs(l.article as u8) {
+            return self.answer(l).unwrap_or(0);
         }
-        if l.legs() != self.book.legs(l.article as u8) {
-            return 0;
-        }
-        self.answer(l).unwrap_or(0)
+        0
     }
 
     // What all sets of a claim require.

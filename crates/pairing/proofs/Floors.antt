@@ -6,7 +6,7 @@ use Rattle.positions.specs.declared.record.Record.{Record}
 use Rattle.books.specs.Tables.{Tables}
 use Rattle.pairing.specs.Sums.{sum_z}
 use Rattle.pairing.specs.Pairing.{Set, Positions, at, mark, lot, takes, worth, requirement, Fair, floor, used, required, AllAllowed, LawfulPairing, cost, FloorUnderCost}
-use Rattle.pairing.proofs.Sums.{times_sum, times_le, add_le, sum_z_add, sum_z_same, sum_z_le, sum_z_none, sum_z_at, at_one}
+use Rattle.pairing.proofs.Sums.{times_sum, times_le, sum_z_add, sum_z_same, sum_z_le, sum_z_none, sum_z_at, at_one}
 
 module _ (t : Tables) (s : ℕ) (held : List Record) (marks : List ℤ) where
   abbrev n : ℕ
@@ -31,7 +31,8 @@ module _ (t : Tables) (s : ℕ) (held : List Record) (marks : List ℤ) where
         let e = sum_z_same n (λ p. m p *ℤ pos (takes s held x.legs p + used s held xs p)) (λ p. (m p *ℤ pos (takes s held x.legs p)) +ℤ (m p *ℤ pos (used s held xs p))) (λ p _ _. times_sum (m p) (takes s held x.legs p) (used s held xs p))
         ∙ sum_z_add n (λ p. m p *ℤ pos (takes s held x.legs p)) (λ p. m p *ℤ pos (used s held xs p)) in
         let here = subst (λ (z : ℤ). z ≤ℤ pos (requirement t s held x)) (sym (sum_takes x.legs h.0.positions)) (fair.sets x h.0) in
-        subst (λ (z : ℤ). z ≤ℤ pos (requirement t s held x + required t s held xs)) (sym e) (add_le _ _ (pos (requirement t s held x)) (pos (required t s held xs)) here (used_le xs h.1))
+        let rest = used_le xs h.1 in
+        omega (arith, ints)
 
     bound : (xs : List Set) → LawfulPairing t s held xs → floor held marks ≤ℤ pos (cost t s held xs)
     bound xs h =
@@ -41,7 +42,8 @@ module _ (t : Tables) (s : ℕ) (held : List Record) (marks : List ℤ) where
         (λ p low high. ap (λ (u : ℕ). m p *ℤ pos u) (let f = h.fits p (low, high) in omega arith) ∙ times_sum (m p) (used s held xs p) (rest p))
         ∙ sum_z_add n (λ p. m p *ℤ pos (used s held xs p)) (λ p. m p *ℤ pos (rest p)) in
         let over = sum_z_le n (λ p. m p *ℤ pos (rest p)) (λ p. t.alone s (at held p) * rest p) (λ p low high. times_le (m p) (t.alone s (at held p)) (rest p) (fair.alone p (low, high))) in
-        subst (λ (z : ℤ). z ≤ℤ pos (cost t s held xs)) (sym e) (add_le _ _ (pos (required t s held xs)) _ (used_le xs h.allowed) over)
+        let sets = used_le xs h.allowed in
+        omega (arith, ints)
 
 pub floor_under_cost : FloorUnderCost
 floor_under_cost t s held marks xs fair h = bound t s held marks fair xs h

@@ -1,6 +1,8 @@
 -- Sound claims stay sound.
-use Rattle.std.proofs.Common.{◌≡◌, ℕ, zero, suc, ◌+◌, ◌-◌, ◌*◌, ◌<◌, ◌≤◌, true, false, cond, not, eqb, List, [], ◌∷◌, ◌++◌, map, length, get_or, take, drop, set, Ok, Result, sym, refl, ap, ◌∙◌, subst, ⊎_elim, le_of_suc-le-suc, not-suc-le-zero, add-mul, mul-le-mul, mul-zero, add-one, arith}
+use Rattle.std.proofs.Common.{◌≡◌, ℕ, zero, suc, ◌+◌, ◌-◌, ◌*◌, ◌<◌, ◌≤◌, true, false, cond, not, eqb, List, [], ◌∷◌, ◌++◌, map, length, get_or, take, drop, set, sum_by, Ok, Result, sym, refl, ap, ◌∙◌, subst, ⊎_elim, le_of_suc-le-suc, not-suc-le-zero, add-mul, mul-le-mul, mul-zero, add-one, arith}
 use Rattle.std.proofs.lemmas.List.{length_push, get_or_append_left}
+use Rattle.std.proofs.lemmas.List.Sums.{sum_by_push, sum_by-set}
+use Rattle.std.proofs.lemmas.List.Recursion.{is_sum_by}
 use Rattle.std.proofs.lemmas.Bool.{cases_eq, cases_Bool, cases_lt, eq-eqb, ne_eqb, eqb-true, cond-true, cond-false, and_parts, or_parts, or_cases, not-true}
 use Rattle.positions.specs.declared.record.Record.{Record}
 use Rattle.books.specs.declared.BookFault.{BookFault}
@@ -22,7 +24,7 @@ takes_none s held (q ∷ qs) p h =
     omega arith
 
 takes_one : (s : ℕ) (held : List Record) (qs : List ℕ) (p : ℕ) → distinct qs ≡ true → among p qs ≡ true → takes s held qs p ≡ lot s held p
-takes_one s held [] p d h = let z : ◌≡◌ {A = ℕ} 0 1 = cc in absurd (let w : ⊥ = omega arith in w)
+takes_one s held [] p d h = cc
 takes_one s held (q ∷ qs) p d h =
     let apart = and_parts (not (among q qs)) (distinct qs) d in
     let alone = not-true (among q qs) apart.0 in
@@ -40,7 +42,7 @@ takes_one s held (q ∷ qs) p d h =
     (cases_eq q p)
 
 covered_at : (s : ℕ) (held : List Record) (ls : List Claim) (qs : List ℕ) (n p : ℕ) → Covered s held ls qs n → among p qs ≡ true → n * lot s held p ≤ (at held p).quantity - taken s held ls p
-covered_at s held ls [] n p c h = let z : ◌≡◌ {A = ℕ} 0 1 = cc in absurd (let w : ⊥ = omega arith in w)
+covered_at s held ls [] n p c h = cc
 covered_at s held ls (q ∷ qs) n p c h =
     ⊎_elim
     (λ z. subst (λ (k : ℕ). n * lot s held k ≤ (at held k).quantity - taken s held ls k) (sym (eqb-true p q z)) c.0)
@@ -62,21 +64,28 @@ fits_more s held ls qs n p d c h =
 
 -- ---- lists of lines
 
-taken_push : (s : ℕ) (held : List Record) (ls : List Claim) (l : Claim) (p : ℕ) → taken s held (ls ++ (l ∷ [])) p ≡ taken s held ls p + l.sets * takes s held (legs_of l) p
-taken_push s held [] l p = omega arith
-taken_push s held (x ∷ ls) l p = let rest = taken_push s held ls l p in omega arith
+module _ (s : ℕ) (held : List Record) (p : ℕ) where
+  -- what a line takes
+  abbrev line : Claim → ℕ
+  line l = l.sets * takes s held (legs_of l) p
 
--- a line with other sets
-taken_set : (s : ℕ) (held : List Record) (ls : List Claim) (i n p : ℕ) → i < length ls → taken s held (set ls i (with_sets (get_or ls i no_claim) n)) p + (get_or ls i no_claim).sets * takes s held (legs_of (get_or ls i no_claim)) p ≡ taken s held ls p + n * takes s held (legs_of (get_or ls i no_claim)) p
-taken_set s held [] i n p h = absurd (not-suc-le-zero h)
-taken_set s held (l ∷ ls) zero n p h = omega arith
-taken_set s held (l ∷ ls) (suc i) n p h = let rest = taken_set s held ls i n p (le_of_suc-le-suc h) in omega arith
+  sums : (ls : List Claim) → taken s held ls p ≡ sum_by line ls
+  sums ls = is_sum_by (λ (ks : List Claim). taken s held ks p) line refl (λ _ _. refl) ls
 
-taken_less : (s : ℕ) (held : List Record) (ls : List Claim) (i p : ℕ) → taken s held (take i ls ++ drop (suc i) ls) p ≤ taken s held ls p
-taken_less s held [] zero p = omega arith
-taken_less s held [] (suc i) p = omega arith
-taken_less s held (l ∷ ls) zero p = omega arith
-taken_less s held (l ∷ ls) (suc i) p = let rest = taken_less s held ls i p in omega arith
+  taken_push : (ls : List Claim) (l : Claim) → taken s held (ls ++ (l ∷ [])) p ≡ taken s held ls p + line l
+  taken_push ls l = omega (arith, sums ls, sums (ls ++ (l ∷ [])), sum_by_push line ls l)
+
+  -- a line with other sets
+  taken_set : (ls : List Claim) (i n : ℕ) → i < length ls → taken s held (set ls i (with_sets (get_or ls i no_claim) n)) p + line (get_or ls i no_claim) ≡ taken s held ls p + n * takes s held (legs_of (get_or ls i no_claim)) p
+  taken_set ls i n h =
+      let other = with_sets (get_or ls i no_claim) n in
+      omega (arith, sums ls, sums (set ls i other), sum_by-set line ls i other no_claim h)
+
+  taken_less : (ls : List Claim) (i : ℕ) → taken s held (take i ls ++ drop (suc i) ls) p ≤ taken s held ls p
+  taken_less [] zero = omega arith
+  taken_less [] (suc i) = omega arith
+  taken_less (l ∷ ls) zero = omega arith
+  taken_less (l ∷ ls) (suc i) = let rest = taken_less ls i in omega arith
 
 module _ (t : Tables) (s : ℕ) (held : List Record) where
   allowed_push : (ls : List Claim) (l : Claim) → ClaimsAllowed t s held ls → Allowed t s held (set_of l) → ClaimsAllowed t s held (ls ++ (l ∷ []))
@@ -180,13 +189,13 @@ sound_kept t s = record {
   enters = λ held ls r h. enters t s held r ls h;
   claims = λ held ls l h a c. record {
     allowed = allowed_push t s held ls l h.allowed a;
-    fits = λ p at_p. let sum = taken_push s held ls l p in let fit = fits_more s held ls (legs_of l) l.sets p a.apart c (h.fits p at_p) in omega arith;
+    fits = λ p at_p. let sum = taken_push s held p ls l in let fit = fits_more s held ls (legs_of l) l.sets p a.apart c (h.fits p at_p) in omega arith;
   };
   adds = λ held ls i n lt h c. record {
     allowed = allowed_set t s held ls i ((get_or ls i no_claim).sets + n) h.allowed;
     fits = λ p at_p.
         let legs = legs_of (get_or ls i no_claim) in
-        let sum = taken_set s held ls i ((get_or ls i no_claim).sets + n) p lt in
+        let sum = taken_set s held p ls i ((get_or ls i no_claim).sets + n) lt in
         let parts = add-mul (get_or ls i no_claim).sets n (takes s held legs p) in
         let fit = fits_more s held ls legs n p (allowed_at t s held ls i lt h.allowed).apart c (h.fits p at_p) in
         omega arith;
@@ -195,7 +204,7 @@ sound_kept t s = record {
     allowed = allowed_set t s held ls i n h.allowed;
     fits = λ p at_p.
         let u = takes s held (legs_of (get_or ls i no_claim)) p in
-        let sum = taken_set s held ls i n p lt in
+        let sum = taken_set s held p ls i n lt in
         let same : u ≤ u = omega arith in
         let less : n * u ≤ (get_or ls i no_claim).sets * u = mul-le-mul few same in
         let was = h.fits p at_p in
@@ -203,6 +212,6 @@ sound_kept t s = record {
   };
   removes = λ held ls i h. subst (λ (k : ℕ). Sound t s held (take i ls ++ drop k ls)) (sym (add-one i)) (record {
     allowed = allowed_less t s held ls i h.allowed;
-    fits = λ p at_p. let less = taken_less s held ls i p in let was = h.fits p at_p in omega arith;
+    fits = λ p at_p. let less = taken_less s held p ls i in let was = h.fits p at_p in omega arith;
   });
 }

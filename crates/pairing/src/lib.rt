@@ -12,6 +12,7 @@ use amounts::ContractSize;
 use positions::Kind;
 
 // A claim: an article, its legs by the numbers of their positions, the third 0 where the article has two, and a number of sets.
+// The fields are the numbers that a call sends and a file keeps, with nothing checked.
 #[derive(Clone, Copy, Default)]
 pub struct Claim {
     pub article: u64,

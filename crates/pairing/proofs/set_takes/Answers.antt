@@ -1,4 +1,4 @@
-use Rattle.std.proofs.Common.{refl, rules}
+use Rattle.std.proofs.Common.{rules}
 use Rattle.pairing.proofs.Floors.{floor_under_cost}
 use Rattle.pairing.proofs.Keeps.{sound_kept}
 use Rattle.pairing.proofs.Standing.{lines_pair}

@@ -1,4 +1,4 @@
-use Rattle.std.proofs.Common.{◌≡◌, ◌+◌, ◌*◌, ◌^◌, List, length, sum_by, sym, refl, ◌∙◌, arith, rules, tests}
+use Rattle.std.proofs.Common.{◌+◌, ◌*◌, ◌^◌, arith, rules, tests}
 use Rattle.std.proofs.lemmas.Iterator.{YieldsList-from_slice, YieldsList-from_map}
 use Rattle.std.proofs.lemmas.Iterator.Consumers.{YieldsList-from_enumerate}
 use Rattle.std.proofs.lemmas.Iterator.Adapters.{total_from_yields_List, fits_from_length, at_most_from_yields_List, at_most_from_enumerate}

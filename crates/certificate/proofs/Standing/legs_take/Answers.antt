@@ -1,4 +1,4 @@
-use Rattle.std.proofs.Common.{◌≡◌, ◌+◌, ◌*◌, ◌≤◌, cond, eqb, length, sum_by, sym, refl, ◌∙◌, arith, rules}
+use Rattle.std.proofs.Common.{◌≡◌, cond, eqb, sum_by, sym, refl, ◌∙◌, arith, rules}
 use Rattle.std.proofs.lemmas.List.Recursion.{is_sum_by}
 use Rattle.pairing.specs.Pairing.{lot, takes}
 use Rattle.certificate.proofs.Sums.{takes_limit}

@@ -1,4 +1,4 @@
-use Rattle.std.proofs.Common.{◌≡◌, ◌*◌, List, sum_by, sym, refl, ◌∙◌, rules}
+use Rattle.std.proofs.Common.{◌≡◌, ◌*◌, sum_by, sym, refl, ◌∙◌, rules}
 use Rattle.std.proofs.lemmas.List.Recursion.{is_sum_by}
 use Rattle.pairing.specs.declared.Claim.{Claim}
 use Rattle.pairing.specs.Pairing.{takes}
