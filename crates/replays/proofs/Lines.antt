@@ -11,7 +11,7 @@ use Rattle.pairing.specs.Kept.{no_claim, with_sets}
 use Rattle.dockets.specs.declared.Refusal.{Refusal}
 use Rattle.dockets.specs.Tally.{Tally}
 use Rattle.dockets.specs.Finding.{like_claim, line_like}
-use Rattle.dockets.specs.Calls.{Verdict, good, if_good, article_ok, claim_judged, line_reply, claim_reply, put, claimed, release_from, release_reply, left, released}
+use Rattle.dockets.specs.Calls.{article_ok, claim_judged, line_reply, claim_reply, put, claimed, release_from, release_reply, left, released}
 use Rattle.runs.proofs.Passed.{unless_ok, if_good_ok}
 
 -- none of the lines is like the one before them

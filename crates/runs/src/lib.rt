@@ -38,7 +38,7 @@ pub enum Granted {
 // The reply to a call: what is granted, or the refusal.
 pub type Reply = Result<Granted, Refusal>;
 
-// One call, whichever it is.
+// One call, whichever it is. It stands apart from `serve`, whose law then follows once, and not anew for each of eleven replies.
 fn dispatch<B: Book + Drop>(docket: &mut Docket<B>, call: &Call) -> Reply
     ensures book { docket.new.book ≡ docket.old.book }
     ensures size { docket.new.state.size ≡ docket.old.state.size }
@@ -73,6 +73,7 @@ fn serve_all<B: Book + Drop>(docket: &mut Docket<B>, calls: &[Call], places: &mu
     ensures book { docket.new.book ≡ docket.old.book }
     ensures size { docket.new.state.size ≡ docket.old.state.size }
 {
+    // No `zip`: after a `zip` over `iter_mut` a proof knows nothing of what the places hold.
     let mut calls = calls.iter();
     for place in places.iter_mut() {
         let Some(call) = calls.next() else {
