@@ -1,5 +1,6 @@
 -- The entry that made a record is the one that makes it again.
 use Rattle.std.proofs.Common.{◌≡◌, ℕ, ◌≤◌, Bool, true, false, cond, eqb, leb, Some, None, Ok, Err, Option, Result, refl, ap, ◌∙◌, arith}
+use Rattle.std.proofs.lemmas.Bool.Decides.{nat_tests}
 use Rattle.std.proofs.lemmas.Bool.{eqb-true, leb-true, and_parts}
 use Rattle.positions.specs.declared.Side.{Side}
 use Rattle.positions.specs.declared.Side.TheVariants.{Long, Short}
@@ -17,28 +18,16 @@ use Rattle.replays.specs.Entries.{entry_of}
 
 -- ---- letters
 
-side_step : (c n : ℕ) (s o : Side) (rest : Option Side) (b : Bool) → eqb c n ≡ b → n ≡ side_letter s → (rest ≡ Some o → c ≡ side_letter o) → cond b (Some s) rest ≡ Some o → c ≡ side_letter o
-side_step c n s o rest true t l next e = let same : s ≡ o = cc in eqb-true c n t ∙ l ∙ ap side_letter same
-side_step c n s o rest false t l next e = next e
-
 side_letter_lem : (c : ℕ) (s : Side) → side_of c ≡ Some s → c ≡ side_letter s
-side_letter_lem c s e =
-    side_step c 76 Long s (cond (eqb c 83) (Some Short) None) (eqb c 76) refl refl
-    (side_step c 83 Short s None (eqb c 83) refl refl (λ z. cc))
-    e
-
-kind_step : (c n : ℕ) (k j : Kind) (rest : Option Kind) (b : Bool) → eqb c n ≡ b → n ≡ kind_letter k → (rest ≡ Some j → c ≡ kind_letter j) → cond b (Some k) rest ≡ Some j → c ≡ kind_letter j
-kind_step c n k j rest true t l next e = let same : k ≡ j = cc in eqb-true c n t ∙ l ∙ ap kind_letter same
-kind_step c n k j rest false t l next e = next e
+side_letter_lem c Long e = grind (arith, nat_tests)
+side_letter_lem c Short e = grind (arith, nat_tests)
 
 kind_letter_lem : (c : ℕ) (k : Kind) → kind_of c ≡ Some k → c ≡ kind_letter k
-kind_letter_lem c k e =
-    kind_step c 85 Units k _ (eqb c 85) refl refl
-    (kind_step c 67 Call k _ (eqb c 67) refl refl
-    (kind_step c 80 Put k _ (eqb c 80) refl refl
-    (kind_step c 70 Futures k _ (eqb c 70) refl refl
-    (kind_step c 82 Receipt k None (eqb c 82) refl refl (λ z. cc)))))
-    e
+kind_letter_lem c Units e = grind (arith, nat_tests)
+kind_letter_lem c Call e = grind (arith, nat_tests)
+kind_letter_lem c Put e = grind (arith, nat_tests)
+kind_letter_lem c Futures e = grind (arith, nat_tests)
+kind_letter_lem c Receipt e = grind (arith, nat_tests)
 
 kept : (b : Bool) (j k : Kind) → cond b (Some j) None ≡ Some k → j ≡ k
 kept true j k e = cc
@@ -88,11 +77,9 @@ small size few e k h =
 
 -- ---- the record
 
-abbrev fields : ℕ → ℕ → ℕ → ℕ → ℕ → ℕ → Entry
-fields a b c d p q = record { side = a; kind = b; strike = c; days = d; price = p; quantity = q }
-
-same_fields : (a a' b b' c c' d d' p p' q q' : ℕ) → a ≡ a' → b ≡ b' → c ≡ c' → d ≡ d' → p ≡ p' → q ≡ q' → fields a b c d p q ≡ fields a' b' c' d' p' q'
-same_fields a a' b b' c c' d d' p p' q q' ea eb ec ed ep eq = cc
+-- the entry, with other letters
+abbrev lettered : Entry → ℕ → ℕ → Entry
+lettered e a b = record { side = a; kind = b; strike = e.strike; days = e.days; price = e.price; quantity = e.quantity }
 
 same_record : (a b : Record) → ◌≡◌ {A = Result Record RecordFault} (Ok a) (Ok b) → a ≡ b
 same_record a b h = cc
@@ -117,7 +104,7 @@ module _ (size : ℕ) (few : size ≤ 1000) (e : Entry) (r : Record) where
       let days = ap (λ (x : Record). x.days) same in
       let quantity = ap (λ (x : Record). x.quantity) same in
       record {
-        entry = same_fields _ _ _ _ _ _ _ _ _ _ _ _ (s ∙ ap (λ (x : Record). side_letter x.side) same) (l ∙ ap (λ (x : Record). kind_letter x.kind) same) (ap (λ (x : Record). x.strike) same) days (ap (λ (x : Record). x.price) same) quantity;
+        entry = ap (λ (a : ℕ). lettered e a e.kind) s ∙ ap (lettered e (side_letter side)) l ∙ ap entry_of same;
         strike = strike_high r.side r.kind r.strike r.days r.price r.ranged;
         days = omega (arith, m.days);
         price = price_high r.side r.kind r.strike r.days r.price r.ranged;
