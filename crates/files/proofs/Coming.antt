@@ -16,8 +16,7 @@ use Rattle.positions.specs.Letters.{side_letter, kind_letter}
 use Rattle.replays.specs.Entries.{entry_of}
 use Rattle.replays.specs.Replay.{holding, EntersAgain, ClaimsAgain, Replayed}
 use Rattle.reading.specs.Body.{Body, no_body, line_taken, then_others, body_from}
-use Rattle.reading.proofs.Takes.{mark_kept, by_position, by_claim, by_mark}
-use Rattle.files.proofs.Takes.{position_entered, claim_granted}
+use Rattle.files.proofs.Takes.{mark_kept, by_position, by_claim, by_mark, position_entered, claim_granted}
 use Rattle.writing.specs.Texts.{position_line, claim_line, mark_line}
 use Rattle.files.specs.Faithful.{Short, FileMarks}
 use Rattle.files.proofs.Parts.{AtLeast, EachAtLeast, least}
@@ -46,7 +45,7 @@ module _ (t : Tables) (size : ℕ) where
   mark_line_lem b z room g =
       sym
       (mark_kept b (signed_decimal z) (lt-ltb (length b.marks) 32 (omega arith)) z _ (sym (one_given reads_integer 6 z g)) refl
-      ∙ by_mark t size b (mark_line z) refl refl (signed_decimal z) refl)
+      ∙ by_mark t size b (mark_line z) (signed_decimal z) refl refl refl)
 
   marks_come : (y : Tally) (zs before : List ℤ) → length before + length zs ≤ 32 → Short zs → Comes t size (body_of y before) (map mark_line zs) (body_of y (before ++ zs))
   marks_come y [] before few h = record { reads = λ n. ap (λ l. Ok (body_of y l)) (sym (append-nil before)); bytes = tt }
@@ -67,7 +66,7 @@ module _ (t : Tables) (size : ℕ) where
       let v = join_with_byte 44 (claim_texts c) in
       sym
       (claim_granted t size (body_of (holding held before) []) v refl c (sym (claim_given 7 c (good_claim held before c a))) (ap is_some a.fresh) c.sets (holding held (before ++ (c ∷ []))) (sym a.granted) (sym a.after)
-      ∙ by_claim t size (body_of (holding held before) []) (claim_line c) refl v refl)
+      ∙ by_claim t size (body_of (holding held before) []) (claim_line c) v refl refl)
 
   module _ (y : Tally) (marks : List ℤ) (all : Replayed t size y) where
     claims_come : (cs before : List Claim) → y.claims ≡ before ++ cs → FileMarks marks → Comes t size (body_of (holding y.held before) []) (map claim_line cs ++ map mark_line marks) (body_of y marks)

@@ -1,8 +1,12 @@
 -- Lines of a key and one field, and the head of a file.
-use Rattle.std.proofs.Common.{◌≡◌, ℕ, ◌+◌, ◌≤◌, Bool, true, false, cond, eqb, leb, List, [], ◌∷◌, ◌++◌, length, Some, None, Ok, Err, codes, decimal, Option, Result, sym, refl, ap, ◌∙◌, subst, arith}
+use Rattle.std.proofs.Common.{◌≡◌, ℕ, ◌+◌, ◌≤◌, Bool, true, false, cond, leb, List, [], ◌∷◌, ◌++◌, length, take, drop, Some, None, Ok, Err, codes, decimal, Option, Result, sym, refl, ap, ◌∙◌, subst, arith}
 use Rattle.std.specs.List.{join_with_byte}
 use Rattle.std.specs.Result.{result_map_both}
-use Rattle.std.proofs.lemmas.Bool.{eqb-true, eq-eqb, le-leb, leb-true, and_from, and_parts, cond-true}
+use Rattle.std.specs.Str.{bytes_eq}
+use Rattle.std.proofs.Math.Seq.{take-append_seam, drop-append_seam}
+use Rattle.std.proofs.lemmas.List.{take-append-drop}
+use Rattle.std.proofs.lemmas.Slice.Eq.{bytes_eq-Decides}
+use Rattle.std.proofs.lemmas.Bool.{le-leb, leb-true, and_from, and_parts, cond-true}
 use Rattle.amounts.specs.declared.rate.Rate.{Rate}
 use Rattle.amounts.specs.Ranges.{inside}
 use Rattle.amounts.specs.Rates.{points}
@@ -34,17 +38,19 @@ use Rattle.files.proofs.Values.{One, one_read, one_given}
 -- ---- a key
 
 pub strip_text : (ks bs v : List ℕ) → strip ks bs ≡ Some v → ks ++ v ≡ bs
-strip_text [] bs v e = cc
-strip_text (k ∷ ks) [] v e = let z : ◌≡◌ {A = ℕ} 0 1 = cc in absurd (omega arith)
-strip_text (k ∷ ks) (c ∷ cs) v e = at (strip_text ks cs v) (eqb c k) refl e
+strip_text ks bs v e = at (bytes_eq (take (length ks) bs) ks) refl e
   where
-    at : (strip ks cs ≡ Some v → ks ++ v ≡ cs) → (b : Bool) → eqb c k ≡ b → cond b (strip ks cs) None ≡ Some v → k ∷ (ks ++ v) ≡ c ∷ cs
-    at h true q e = λ i. sym (eqb-true c k q) i ∷ h e i
-    at h false q e = let z : ◌≡◌ {A = ℕ} 0 1 = cc in absurd (omega arith)
+    at : (b : Bool) → bytes_eq (take (length ks) bs) ks ≡ b → cond b (Some (drop (length ks) bs)) None ≡ Some v → ks ++ v ≡ bs
+    at true q e =
+        let t : take (length ks) bs ≡ ks = (bytes_eq-Decides _ _).0 q in
+        let w : drop (length ks) bs ≡ v = cc in
+        (λ i. sym t i ++ sym w i) ∙ take-append-drop (length ks) bs
+    at false q e = cc
 
 strip_key : (ks v : List ℕ) → strip ks (ks ++ v) ≡ Some v
-strip_key [] v = refl
-strip_key (k ∷ ks) v = ap (λ b. cond b (strip ks (ks ++ v)) None) (eq-eqb k k refl) ∙ strip_key ks v
+strip_key ks v =
+    (λ i. cond (bytes_eq (take-append_seam ks v i) ks) (Some (drop-append_seam ks v i)) None)
+    ∙ ap (λ b. cond b (Some v) None) ((bytes_eq-Decides ks ks).1 refl)
 
 -- no byte of a line ends it
 pub line_bytes : (key : List ℕ) (fields : List (List ℕ)) → AtLeast 11 key → EachAtLeast 45 fields → AtLeast 11 (line key fields)

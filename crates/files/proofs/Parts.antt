@@ -1,28 +1,15 @@
 -- Pieces that a byte parts, put together and parted again.
-use Rattle.std.proofs.Common.{◌≡◌, ℕ, ◌<◌, ◌≤◌, Bool, true, false, cond, ◌&&◌, eqb, leb, List, [], ◌∷◌, ◌++◌, sym, refl, ap, ◌∙◌, append_assoc, arith}
-use Rattle.std.proofs.lemmas.Bool.{eqb-true, eq-eqb, ne_eqb, leb-true, and_parts}
-use Rattle.std.specs.List.{flat_map, join_with_byte}
-use Rattle.text.specs.Fields.{split, on_first}
-use Rattle.text.proofs.Parting.{split_is}
+use Rattle.std.proofs.Common.{◌≡◌, ℕ, ◌<◌, ◌≤◌, Bool, true, false, cond, ◌&&◌, eqb, leb, List, [], ◌∷◌, ◌++◌, refl, ap, ◌∙◌, append_assoc, arith}
+use Rattle.std.proofs.lemmas.Bool.{eq-eqb, ne_eqb, leb-true, and_parts}
+use Rattle.std.proofs.lemmas.List.Splits.{join_with_byte-slice_split}
+use Rattle.std.specs.List.{flat_map, join_with_byte, onto_first}
+use Rattle.text.specs.Fields.{split}
 use Rattle.writing.specs.Texts.{ended}
 
 -- ---- parted and put together
 
-on_first_lem : (s c : ℕ) (fs : List (List ℕ)) → join_with_byte s (on_first c fs) ≡ c ∷ join_with_byte s fs
-on_first_lem s c [] = refl
-on_first_lem s c (f ∷ []) = refl
-on_first_lem s c (f ∷ g ∷ fs) = refl
-
-empty_first : (s : ℕ) (bs : List ℕ) → join_with_byte s ([] ∷ split s bs) ≡ s ∷ join_with_byte s (split s bs)
-empty_first s bs = let some = split_is s bs in ap (λ l. join_with_byte s ([] ∷ l)) some ∙ sym (ap (λ l. s ∷ join_with_byte s l) some)
-
 pub rejoin : (s : ℕ) (bs : List ℕ) → join_with_byte s (split s bs) ≡ bs
-rejoin s [] = refl
-rejoin s (c ∷ cs) = at (rejoin s cs) (eqb c s) refl
-  where
-    at : join_with_byte s (split s cs) ≡ cs → (b : Bool) → eqb c s ≡ b → join_with_byte s (cond b ([] ∷ split s cs) (on_first c (split s cs))) ≡ c ∷ cs
-    at h true e = empty_first s cs ∙ (λ i. sym (eqb-true c s e) i ∷ h i)
-    at h false e = on_first_lem s c (split s cs) ∙ ap (λ l. c ∷ l) h
+rejoin s bs = join_with_byte-slice_split s bs
 
 -- ---- put together and parted
 
@@ -67,13 +54,13 @@ module _ (s k : ℕ) (above : s < k) where
 
   split_one : (bs : List ℕ) → AtLeast k bs → split s bs ≡ bs ∷ []
   split_one [] h = refl
-  split_one (c ∷ cs) h = ap (λ b. cond b ([] ∷ split s cs) (on_first c (split s cs))) (other c h.0) ∙ ap (on_first c) (split_one cs h.1)
+  split_one (c ∷ cs) h = ap (λ b. cond b ([] ∷ split s cs) (onto_first c (split s cs))) (other c h.0) ∙ ap (onto_first c) (split_one cs h.1)
 
   split_more : (bs rest : List ℕ) → AtLeast k bs → split s (bs ++ (s ∷ rest)) ≡ bs ∷ split s rest
-  split_more [] rest h = ap (λ b. cond b ([] ∷ split s rest) (on_first s (split s rest))) (eq-eqb s s refl)
+  split_more [] rest h = ap (λ b. cond b ([] ∷ split s rest) (onto_first s (split s rest))) (eq-eqb s s refl)
   split_more (c ∷ cs) rest h =
-      ap (λ b. cond b ([] ∷ split s (cs ++ (s ∷ rest))) (on_first c (split s (cs ++ (s ∷ rest))))) (other c h.0)
-      ∙ ap (on_first c) (split_more cs rest h.1)
+      ap (λ b. cond b ([] ∷ split s (cs ++ (s ∷ rest))) (onto_first c (split s (cs ++ (s ∷ rest))))) (other c h.0)
+      ∙ ap (onto_first c) (split_more cs rest h.1)
 
   pub split_rejoined : (f : List ℕ) (fs : List (List ℕ)) → EachAtLeast k (f ∷ fs) → split s (join_with_byte s (f ∷ fs)) ≡ f ∷ fs
   split_rejoined f [] h = split_one f h.0

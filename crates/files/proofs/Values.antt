@@ -1,10 +1,11 @@
 -- Fields read one after another, and the values of pos and claim lines.
 use Rattle.std.proofs.Common.{◌≡◌, ℕ, ◌+◌, List, [], ◌∷◌, length, Some, None, Ok, decimal, Option, Result, sym, refl, ap, ◌∙◌, subst, arith}
 use Rattle.std.specs.List.{join_with_byte}
+use Rattle.std.specs.Option.{ok_or}
 use Rattle.positions.specs.declared.Entry.{Entry}
 use Rattle.pairing.specs.declared.Claim.{Claim}
 use Rattle.text.specs.declared.BadField.{BadField}
-use Rattle.text.specs.Fields.{split, and_then, or_bad, field_at, end_at, one_field}
+use Rattle.text.specs.Fields.{split, got, and_then, bad_at, field_at, end_at, one_field}
 use Rattle.reading.specs.Values.{entry_at, claim_at}
 use Rattle.files.proofs.Parts.{rejoin, split_rejoined, EachAtLeast}
 use Rattle.files.proofs.Again.{Reads}
@@ -30,13 +31,13 @@ module _ {A : Type 0} {reads : List ℕ → Option A} {text : A → List ℕ} {G
   field_read p [] next r W e k = let z : ◌≡◌ {A = ℕ} 0 1 = cc in absurd (omega arith)
   field_read p (f ∷ fs) next r W e k = at (reads f) refl e
     where
-      at : (o : Option A) → reads f ≡ o → and_then (or_bad p (p + (length f + 1)) fs o) next ≡ Ok r → W (f ∷ fs)
+      at : (o : Option A) → reads f ≡ o → and_then (got (ok_or o (bad_at p)) (p + (length f + 1)) fs) next ≡ Ok r → W (f ∷ fs)
       at (Some x) h e = subst (λ g. W (g ∷ fs)) (R.written f x h) (k x (p + (length f + 1)) fs (R.good f x h) e)
       at None h e = let z : ◌≡◌ {A = ℕ} 0 1 = cc in absurd (omega arith)
 
   pub given : {B : Type 0} (x : A) → Good x → (p : ℕ) (fs : List (List ℕ)) (next : A → ℕ → List (List ℕ) → Result B BadField) → and_then (field_at reads p (text x ∷ fs)) next ≡ next x (p + (length (text x) + 1)) fs
   unfolding field_at
-  given x g p fs next = ap (λ o. and_then (or_bad p (p + (length (text x) + 1)) fs o) next) (R.again x g)
+  given x g p fs next = ap (λ o. and_then (got (ok_or o (bad_at p)) (p + (length (text x) + 1)) fs) next) (R.again x g)
 
   pub one_read : (p : ℕ) (v : List ℕ) (x : A) → one_field reads p (split 44 v) ≡ Ok x → One text Good v x
   one_read p v x e =

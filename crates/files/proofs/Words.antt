@@ -1,9 +1,10 @@
 -- Letters and words.
 use Rattle.std.proofs.Common.{◌≡◌, ℕ, Bool, true, false, cond, ◌&&◌, eqb, List, [], ◌∷◌, Some, None, codes, decimal, Option, sym, refl, ap, ◌∙◌, arith}
 use Rattle.std.specs.Option.{option_map}
-use Rattle.std.proofs.lemmas.Bool.{eqb-true, and_parts}
+use Rattle.std.specs.Str.{bytes_eq}
+use Rattle.std.proofs.lemmas.Slice.Eq.{bytes_eq-Decides}
 use Rattle.std.proofs.lemmas.Bool.Decides.{nat_tests}
-use Rattle.text.specs.Numbers.{is_upper, natural, letter, same, number_or_none, yes_or_no}
+use Rattle.text.specs.Numbers.{is_upper, natural, letter, number_or_none, yes_or_no}
 use Rattle.reader.specs.declared.head.MarketName.{MarketName}
 use Rattle.reader.specs.declared.head.MarketName.TheVariants as name
 use Rattle.reader.specs.Head.{market_name}
@@ -43,15 +44,9 @@ reads_letter = record {
 
 -- ---- words
 
-same_bytes : (xs ys : List ℕ) → same xs ys ≡ true → xs ≡ ys
-same_bytes [] [] e = refl
-same_bytes [] (d ∷ ds) e = let z : ◌≡◌ {A = ℕ} 0 1 = cc in absurd (omega arith)
-same_bytes (c ∷ cs) [] e = let z : ◌≡◌ {A = ℕ} 0 1 = cc in absurd (omega arith)
-same_bytes (c ∷ cs) (d ∷ ds) e = let p = and_parts (eqb c d) (same cs ds) e in (λ i. eqb-true c d p.0 i ∷ same_bytes cs ds p.1 i)
-
 -- a word stands for x, and else the others are tried
-worded : {A : Type 0} (text : A → List ℕ) (bs w : List ℕ) (x y : A) (other : Option A) → text x ≡ w → (other ≡ Some y → text y ≡ bs) → (b : Bool) → same bs w ≡ b → cond b (Some x) other ≡ Some y → text y ≡ bs
-worded text bs w x y other is next true s e = let i : x ≡ y = cc in ap text (sym i) ∙ is ∙ sym (same_bytes bs w s)
+worded : {A : Type 0} (text : A → List ℕ) (bs w : List ℕ) (x y : A) (other : Option A) → text x ≡ w → (other ≡ Some y → text y ≡ bs) → (b : Bool) → bytes_eq bs w ≡ b → cond b (Some x) other ≡ Some y → text y ≡ bs
+worded text bs w x y other is next true s e = let i : x ≡ y = cc in ap text (sym i) ∙ is ∙ sym ((bytes_eq-Decides bs w).0 s)
 worded text bs w x y other is next false s e = next e
 
 never : {A : Type 0} {P : Type 0} (x : A) → None ≡ Some x → P
@@ -65,8 +60,8 @@ pub reads_yes : Reads yes_or_no reduced_text Any
 reads_yes = record {
   written = λ f x e.
       worded reduced_text f (codes "yes") true x _ refl
-      (worded reduced_text f (codes "no") false x None refl (never x) (same f (codes "no")) refl)
-      (same f (codes "yes")) refl e;
+      (worded reduced_text f (codes "no") false x None refl (never x) (bytes_eq f (codes "no")) refl)
+      (bytes_eq f (codes "yes")) refl e;
   good = λ f x e. tt;
   again = λ x u. elim x as (λ b. yes_or_no (reduced_text b) ≡ Some b) [ true ↦ refl | false ↦ refl ];
   bytes = λ x u. elim x as (λ b. AtLeast 45 (reduced_text b)) [ true ↦ least 45 (codes "yes") refl | false ↦ least 45 (codes "no") refl ];
@@ -88,8 +83,8 @@ pub reads_market : Reads market_name market_text Any
 reads_market = record {
   written = λ f x e.
       worded market_text f (codes "share") name.Share x _ refl
-      (worded market_text f (codes "currency") name.Currency x None refl (never x) (same f (codes "currency")) refl)
-      (same f (codes "share")) refl e;
+      (worded market_text f (codes "currency") name.Currency x None refl (never x) (bytes_eq f (codes "currency")) refl)
+      (bytes_eq f (codes "share")) refl e;
   good = λ f x e. tt;
   again = λ x u. market_again x;
   bytes = λ x u. market_bytes x;
@@ -105,18 +100,18 @@ record Rated (x : Option ℕ) (f : List ℕ) : Type 0 where
   text : rate_text x ≡ f
   small : SmallIfAny x
 
-rated : (f : List ℕ) (x : Option ℕ) → (b : Bool) → same f (codes "none") ≡ b → (o : Option ℕ) → natural f ≡ o → cond b (Some None) (option_map Some o) ≡ Some x → Rated x f
-rated f None true s o q e = record { text = sym (same_bytes f (codes "none") s); small = tt }
+rated : (f : List ℕ) (x : Option ℕ) → (b : Bool) → bytes_eq f (codes "none") ≡ b → (o : Option ℕ) → natural f ≡ o → cond b (Some None) (option_map Some o) ≡ Some x → Rated x f
+rated f None true s o q e = record { text = sym ((bytes_eq-Decides f (codes "none")).0 s); small = tt }
 rated f (Some n) true s o q e = let z : ◌≡◌ {A = ℕ} 0 1 = cc in absurd (omega arith)
 rated f x false s None q e = never x e
 rated f None false s (Some n) q e = let z : ◌≡◌ {A = ℕ} 0 1 = cc in absurd (omega arith)
 rated f (Some m) false s (Some n) q e = let i : n ≡ m = cc in let is : natural f ≡ Some m = cc in record { text = reads_natural.written f m is; small = reads_natural.good f m is }
 
-digit_none : (bs : List ℕ) → Leads bs → same bs (codes "none") ≡ false
+digit_none : (bs : List ℕ) → Leads bs → bytes_eq bs (codes "none") ≡ false
 digit_none bs l =
     let d = l.digit in
     let other : eqb l.first 110 ≡ false = grind (arith, nat_tests) in
-    ap (λ ds. same ds (codes "none")) l.is ∙ ap (λ b. b && same l.others (codes "one")) other
+    ap (λ ds. bytes_eq ds (codes "none")) l.is ∙ ap (λ b. b && bytes_eq l.others (codes "one")) other
 
 rate_again : (x : Option ℕ) → SmallIfAny x → number_or_none (rate_text x) ≡ Some x
 rate_again None h = refl
@@ -130,8 +125,8 @@ rate_bytes (Some n) h = reads_natural.bytes n h
 
 pub reads_rate : Reads number_or_none rate_text SmallIfAny
 reads_rate = record {
-  written = λ f x e. (rated f x (same f (codes "none")) refl (natural f) refl e).text;
-  good = λ f x e. (rated f x (same f (codes "none")) refl (natural f) refl e).small;
+  written = λ f x e. (rated f x (bytes_eq f (codes "none")) refl (natural f) refl e).text;
+  good = λ f x e. (rated f x (bytes_eq f (codes "none")) refl (natural f) refl e).small;
   again = rate_again;
   bytes = rate_bytes;
 }

@@ -1,2 +1,1 @@
 pub mod Turns
-pub mod Keys

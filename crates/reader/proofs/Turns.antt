@@ -1,7 +1,6 @@
--- One line more.
-use Rattle.std.proofs.Common.{◌≡◌, ℕ, ◌+◌, ◌<◌, List, [], ◌∷◌, length, Some, None, Ok, Err, sym, refl, ap, ◌∙◌, arith}
+-- The next line, by what is left of the file.
+use Rattle.std.proofs.Common.{◌≡◌, ℕ, ◌+◌, ◌<◌, List, [], ◌∷◌, length, Some, None, Ok, Err, sym, refl, ap, arith}
 use Rattle.text.specs.Fields.{split}
-use Rattle.text.proofs.Parting.{split_is}
 use Rattle.reader.specs.Faults.{on_line, no_line}
 use Rattle.reader.specs.Lines.{next_line}
 
@@ -13,7 +12,6 @@ pub unended : (n : ℕ) (fs : List (List ℕ)) (f : List ℕ) → fs ≡ f ∷ [
 unended n fs [] e h = absurd (omega arith)
 unended n fs (c ∷ cs) e h = sym (ap (next_line n) e)
 
-pub one_line : (n : ℕ) (fs : List (List ℕ)) (f more : List ℕ) → fs ≡ f ∷ split 10 more → Ok (record { value = Some f; place = n + 1; left = split 10 more }) ≡ next_line n fs
-one_line n fs f more e =
-    let s = split_is 10 more in
-    ap (λ l. Ok (record { value = Some f; place = n + 1; left = l })) s ∙ sym (ap (next_line n) (e ∙ ap (λ l. f ∷ l) s))
+pub one_line : (n : ℕ) (fs gs : List (List ℕ)) (f : List ℕ) → fs ≡ f ∷ gs → 0 < length gs → Ok (record { value = Some f; place = n + 1; left = gs }) ≡ next_line n fs
+one_line n fs [] f e h = absurd (omega arith)
+one_line n fs (g ∷ gs) f e h = sym (ap (next_line n) e)

@@ -23,17 +23,21 @@ cause_number Repeated = 4
 abbrev pub on_line : ℕ → LineFault → ReadFault
 on_line n f = record { line = n; fault = f }
 
--- no ending byte, or no line; causes 1, 2 and 4 have place 1
+-- causes 1, 2 and 4 have place 1
+abbrev pub bad_line : LineCause → LineFault
+bad_line cause = Bad 1 cause
+
+-- no ending byte, or no line
 abbrev pub no_line : LineFault
-no_line = Bad 1 NoLine
+no_line = bad_line NoLine
 
 -- a key that may not stand there
 abbrev pub wrong_key : LineFault
-wrong_key = Bad 1 WrongKey
+wrong_key = bad_line WrongKey
 
 -- a claim that repeats an earlier line
 abbrev pub repeated : LineFault
-repeated = Bad 1 Repeated
+repeated = bad_line Repeated
 
 -- an ill-formed value has the place of its first bad, missing or surplus field
 abbrev pub from_field : BadField → LineFault

@@ -1,12 +1,13 @@
 -- The head of a file: the contract size, and the lines of a sheet, in their order.
 use Rattle.std.specs.Prelude.{ℕ, cond, List, Some, None, Ok, Err, codes, Option, Result}
+use Rattle.std.specs.Str.{bytes_eq}
 use Rattle.amounts.specs.Ranges.{inside}
 use Rattle.market.specs.declared.SheetFault.{SheetFault}
 use Rattle.market.specs.Share.{sheet_of}
 use Rattle.market.specs.Currency.{currency_of}
 use Rattle.dockets.specs.declared.Refusal.TheVariants.{SizeOutOfRange}
 use Rattle.text.specs.Fields.{Got, and_then}
-use Rattle.text.specs.Numbers.{natural, number_or_none, yes_or_no, same}
+use Rattle.text.specs.Numbers.{natural, number_or_none, yes_or_no}
 use Rattle.reader.specs.declared.faults.ReadFault.{ReadFault}
 use Rattle.reader.specs.declared.head.MarketName.{MarketName}
 use Rattle.reader.specs.declared.head.MarketName.TheVariants as name
@@ -16,7 +17,7 @@ use Rattle.reader.specs.Rates.{Rates, share, currency}
 
 -- share or currency
 abbrev pub market_name : List ℕ → Option MarketName
-market_name bs = cond (same bs (codes "share")) (Some name.Share) (cond (same bs (codes "currency")) (Some name.Currency) None)
+market_name bs = cond (bytes_eq bs (codes "share")) (Some name.Share) (cond (bytes_eq bs (codes "currency")) (Some name.Currency) None)
 
 -- a sheet whose last line is line n: refused there, or read
 abbrev pub judged : {A : Type 0} → (A → Rates) → ℕ → Result A SheetFault → ℕ → List (List ℕ) → Result (Got Rates) ReadFault

@@ -1,6 +1,7 @@
 -- The lines of a file: what byte 10 parts. The last piece is no line, since no ending byte follows it.
-use Rattle.std.specs.Prelude.{ℕ, ◌+◌, cond, List, [], ◌∷◌, length, drop, Some, None, Ok, Err, Option, Result, ◌==◌}
+use Rattle.std.specs.Prelude.{ℕ, ◌+◌, cond, List, [], ◌∷◌, length, take, drop, Some, None, Ok, Err, Option, Result}
 use Rattle.std.specs.Result.{result_map_both}
+use Rattle.std.specs.Str.{bytes_eq}
 use Rattle.text.specs.Fields.{split, Got, one_field}
 use Rattle.reader.specs.declared.faults.LineFault.{LineFault}
 use Rattle.reader.specs.declared.faults.ReadFault.{ReadFault}
@@ -24,9 +25,7 @@ next_line n (f ∷ g ∷ fs) = Ok (record { value = Some f; place = n + 1; left 
 
 -- what stands after a key, or None where another stands there
 abbrev pub strip : List ℕ → List ℕ → Option (List ℕ)
-strip [] bs = Some bs
-strip (k ∷ ks) [] = None
-strip (k ∷ ks) (c ∷ cs) = cond (c == k) (strip ks cs) None
+strip key bs = cond (bytes_eq (take (length key) bs) key) (Some (drop (length key) bs)) None
 
 -- the value after a key, which begins at the place after it
 abbrev pub after_key : {A : Type 0} → (ℕ → List ℕ → Result A LineFault) → ℕ → Option (List ℕ) → Result A LineFault

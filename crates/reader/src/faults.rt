@@ -1,18 +1,18 @@
 // What is wrong with a file.
 ghost use Rattle.std.specs.Prelude.{◌≡◌};
-ghost use Rattle.reader.specs.Faults.{cause_number, from_field, from_sheet, from_call, fault_number, fault_details};
+ghost use Rattle.reader.specs.Faults.{cause_number, bad_line, from_field, from_sheet, from_call, fault_number, fault_details};
 
 use dockets::{Details, Refusal};
 use market::SheetFault;
 use text::BadField;
 
 // Why a line is bad.
-#[derive(Clone, Copy)]
+#[derive(Debug, Clone, Copy, PartialEq, Eq)]
 pub enum LineCause {
-    NoLine,
-    WrongKey,
-    IllFormed,
-    Repeated,
+    NoLine = 1,
+    WrongKey = 2,
+    IllFormed = 3,
+    Repeated = 4,
 }
 
 // What is wrong with a line: it is bad at a place, or the sheet or the call that it ends or stands for is refused.
@@ -30,12 +30,19 @@ pub struct ReadFault {
     pub fault: LineFault,
 }
 
+// With no field that is bad, the line is bad from its first byte on.
+impl From<LineCause> for LineFault {
+    ghost from_gives = { λ x y. y ≡ bad_line x };
+
+    fn from(cause: LineCause) -> LineFault {
+        LineFault::Bad { place: 1, cause }
+    }
+}
+
 impl From<BadField> for LineFault {
     ghost from_gives = { λ x y. y ≡ from_field x };
 
-    fn from(value: BadField) -> LineFault
-        ensures { result ≡ from_field value }
-    {
+    fn from(value: BadField) -> LineFault {
         LineFault::Bad {
             place: value.place,
             cause: LineCause::IllFormed,
@@ -46,9 +53,7 @@ impl From<BadField> for LineFault {
 impl From<SheetFault> for LineFault {
     ghost from_gives = { λ x y. y ≡ from_sheet x };
 
-    fn from(value: SheetFault) -> LineFault
-        ensures { result ≡ from_sheet value }
-    {
+    fn from(value: SheetFault) -> LineFault {
         LineFault::Sheet(value)
     }
 }
@@ -56,9 +61,7 @@ impl From<SheetFault> for LineFault {
 impl From<Refusal> for LineFault {
     ghost from_gives = { λ x y. y ≡ from_call x };
 
-    fn from(value: Refusal) -> LineFault
-        ensures { result ≡ from_call value }
-    {
+    fn from(value: Refusal) -> LineFault {
         LineFault::Call(value)
     }
 }
@@ -68,16 +71,21 @@ impl LineCause {
     pub fn number(self) -> u8
         ensures { result ≡ cause_number self }
     {
-        match self {
-            LineCause::NoLine => 1,
-            LineCause::WrongKey => 2,
-            LineCause::IllFormed => 3,
-            LineCause::Repeated => 4,
-        }
+        self as u8
     }
 }
 
 impl ReadFault {
+    // What is wrong on a line.
+    pub fn on<F: Into<LineFault>>(line: usize, fault: F) -> ReadFault
+        ensures { (result.line ≡ line) × F.converts fault result.fault }
+    {
+        ReadFault {
+            line,
+            fault: fault.into(),
+        }
+    }
+
     // The number by which the refusal is known.
     pub fn number(self) -> u8
         ensures { result ≡ fault_number self.fault }

@@ -2,6 +2,7 @@
 ghost use Rattle.std.specs.Prelude.{◌≡◌, ◌+◌, ◌≤◌, length, drop};
 
 // Where reading stands in a file: the byte that comes next, from 0, and its line, from 1.
+// A slice with a place beside it: the product reads a file in this form.
 #[derive(Clone, Copy)]
 pub struct Reader<'a> {
     pub(crate) file: &'a [u8],

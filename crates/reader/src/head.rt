@@ -9,7 +9,6 @@ ghost use Rattle.market.specs.Share.{shares_on};
 ghost use Rattle.market.specs.Currency.{currency_on};
 ghost use Rattle.reader.specs.Rates.{rates_on, share, currency};
 ghost use Rattle.reader.specs.Head.{market_name, shares_at, currency_at, sheet_at, size_at, head_at};
-ghost use Rattle.reader.specs.Faults.{on_line, from_sheet};
 ghost use Rattle.reader.specs.Lines.{pieces};
 
 use crate::faults::ReadFault;
@@ -18,12 +17,11 @@ use crate::lines::value_line;
 use amounts::ContractSize;
 use books::Sheet;
 use dockets::{Docket, Refusal};
-use market::{CurrencySheet, ShareSheet, SheetFault};
-use text::numbers::is_word;
+use market::{CurrencySheet, ShareSheet};
 use text::values::Value;
 
 // The market that a sheet is for.
-#[derive(Clone, Copy)]
+#[derive(Debug, Clone, Copy, PartialEq, Eq)]
 pub enum MarketName {
     Share,
     Currency,
@@ -34,26 +32,11 @@ impl Value for MarketName {
     ghost reads = { market_name };
 
     fn of_field(field: &[u8]) -> Option<MarketName> {
-        if is_word(field, b"share") {
-            return Some(MarketName::Share);
+        match field {
+            b"share" => Some(MarketName::Share),
+            b"currency" => Some(MarketName::Currency),
+            _ => None,
         }
-        if is_word(field, b"currency") {
-            return Some(MarketName::Currency);
-        }
-        None
-    }
-}
-
-// A sheet is judged at its last line.
-fn judged<T>(line: usize, sheet: Result<T, SheetFault>) -> Result<T, ReadFault>
-    ensures { result ≡ result_map_both (λ s. s) (λ f. on_line line (from_sheet f)) sheet }
-{
-    match sheet {
-        Ok(sheet) => Ok(sheet),
-        Err(fault) => Err(ReadFault {
-            line,
-            fault: fault.into(),
-        }),
     }
 }
 
@@ -67,10 +50,9 @@ fn share_sheet(reader: &mut Reader) -> Result<ShareSheet, ReadFault>
     let futures = value_line::<Option<u64>>(reader, b"futures=")?;
     let last = reader.line();
     let tracking = value_line::<Option<u64>>(reader, b"tracking=")?;
-    judged(
-        last,
-        ShareSheet::new(price, reduced, floor, futures, tracking),
-    )
+    ShareSheet::new(price, reduced, floor, futures, tracking).map_err(|fault| ReadFault::on(
+        last, fault,
+    ))
 }
 
 // price and spot; judged at the last line.
@@ -80,7 +62,7 @@ fn currency_sheet(reader: &mut Reader) -> Result<CurrencySheet, ReadFault>
     let price = value_line::<u64>(reader, b"price=")?;
     let last = reader.line();
     let spot = value_line::<u64>(reader, b"spot=")?;
-    judged(last, CurrencySheet::new(price, spot))
+    CurrencySheet::new(price, spot).map_err(|fault| ReadFault::on(last, fault))
 }
 
 // The market's name, and its sheet.
@@ -100,13 +82,8 @@ fn read_size(reader: &mut Reader) -> Result<u64, ReadFault>
 {
     let line = reader.line();
     let size = value_line::<u64>(reader, b"size=")?;
-    match ContractSize::new(size) {
-        Some(_) => Ok(size),
-        None => Err(ReadFault {
-            line,
-            fault: Refusal::SizeOutOfRange.into(),
-        }),
-    }
+    ContractSize::new(size).ok_or(ReadFault::on(line, Refusal::SizeOutOfRange))?;
+    Ok(size)
 }
 
 // The docket that a file's head opens.
@@ -117,11 +94,5 @@ pub fn open_docket(reader: &mut Reader) -> Result<Docket<Sheet>, ReadFault>
     let line = reader.line();
     let size = read_size(reader)?;
     let sheet = read_sheet(reader)?;
-    match Docket::open(sheet, size) {
-        Ok(docket) => Ok(docket),
-        Err(refusal) => Err(ReadFault {
-            line,
-            fault: refusal.into(),
-        }),
-    }
+    Docket::open(sheet, size).map_err(|refusal| ReadFault::on(line, refusal))
 }

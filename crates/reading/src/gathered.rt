@@ -1,13 +1,10 @@
-ghost use Rattle.std.specs.Prelude.{◌≤◌};
-
+use arrayvec::ArrayVec;
 use books::Sheet;
 use dockets::Docket;
 
-// What the lines so far have led to: the docket, and at most 32 marks in the first places.
+// What the lines so far have led to: the docket, and at most 32 marks.
 #[derive(Drop)]
 pub struct Gathered {
     pub docket: Docket<Sheet>,
-    pub marks: [i64; 32],
-    pub count: usize,
-    ghost few: { count ≤ 32 },
+    pub marks: ArrayVec<i64, 32>,
 }

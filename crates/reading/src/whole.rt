@@ -10,6 +10,7 @@ ghost use Rattle.reading.specs.Contents.{contents_of};
 ghost use Rattle.reading.specs.Files.{read_file, filled, content};
 
 use crate::gathered::Gathered;
+use arrayvec::ArrayVec;
 use books::Sheet;
 use dockets::Docket;
 use reader::faults::ReadFault;
@@ -17,6 +18,7 @@ use reader::file::Reader;
 use reader::head::open_docket;
 
 // What a file describes: a docket, and how many marks.
+// A count beside the caller's array: the product leaves the places after the marks as they were.
 #[derive(Drop)]
 pub struct Contents {
     pub docket: Docket<Sheet>,
@@ -34,10 +36,9 @@ fn take_lines(reader: &mut Reader, gathered: &mut Gathered) -> Result<(), ReadFa
         let Some(bytes) = reader.next_line()? else {
             return Ok(());
         };
-        match gathered.take_line(bytes) {
-            Ok(()) => {}
-            Err(fault) => return Err(ReadFault { line, fault }),
-        }
+        gathered
+            .take_line(bytes)
+            .map_err(|fault| ReadFault::on(line, fault))?;
     }
 }
 
@@ -49,8 +50,7 @@ fn gather(file: &[u8]) -> Result<Gathered, ReadFault>
     let docket = open_docket(&mut reader)?;
     let mut gathered = Gathered {
         docket,
-        marks: [0; 32],
-        count: 0,
+        marks: ArrayVec::new(),
     };
     take_lines(&mut reader, &mut gathered)?;
     Ok(gathered)
@@ -62,14 +62,10 @@ pub fn read(file: &[u8], marks: &mut [i64; 32]) -> Result<Contents, ReadFault>
     ensures places { marks.new ≡ filled (read_file file.now) marks.old }
     ensures few { IfOk result (λ x. x.marks ≤ 32) }
 {
-    let Gathered {
-        docket,
-        marks: own,
-        count,
-    } = gather(file)?;
-    marks[0..count].copy_from_slice(&own[0..count]);
+    let Gathered { docket, marks: own } = gather(file)?;
+    marks[..own.len()].copy_from_slice(&own);
     Ok(Contents {
         docket,
-        marks: count,
+        marks: own.len(),
     })
 }

@@ -1,54 +1,55 @@
-use Rattle.std.proofs.Common.{◌≡◌, ℕ, suc, ◌+◌, ◌<◌, ◌≤◌, Bool, true, false, cond, eqb, List, [], ◌∷◌, length, get_or, take, drop, sym, refl, ap, ◌∙◌, add-one, arith, drop-cons, eq-eqb, ne_eqb}
-use borrow.Author.Tests.{clash}
-use Rattle.std.specs.List.{between}
+-- The first piece, and the others.
+use Rattle.std.proofs.Common.{◌≡◌, ℕ, suc, ◌+◌, ◌<◌, ◌≤◌, Bool, true, false, cond, eqb, ltb, not, List, [], ◌∷◌, length, take, drop, Some, None, Option, Bor, sym, refl, ap, subst, ◌∙◌, arith}
+use borrow.Author.Tests.{ltb-true, ltb-false}
+use Rattle.std.specs.List.{position, position_or_len, onto_first}
+use Rattle.std.specs.Option.{unwrap_or}
+use Rattle.std.specs.Slice.{IsGetRangeResult}
+use Rattle.std.proofs.lemmas.List.{take_all}
+use Rattle.std.proofs.lemmas.List.Splits.{slice_split_first}
+use Rattle.std.proofs.lemmas.Bool.{false≢true}
 use Rattle.std.proofs.lemmas.Slice.{between_to_end}
-use Rattle.text.specs.Fields.{before, split, on_first, remaining}
+use Rattle.text.specs.Fields.{split, remaining}
 
-pub before_stop : (stop : ℕ) (bs : List ℕ) (i : ℕ) → i < length bs → get_or bs i 0 ≡ stop → length (before stop (drop i bs)) ≡ 0
-before_stop stop bs i h e =
-    ap (λ l. length (before stop l)) (drop-cons bs i 0 h) ∙ ap (λ b. length (cond b [] (get_or bs i 0 ∷ before stop (drop (suc i) bs)))) (eq-eqb _ _ e)
-
-pub before_more : (stop : ℕ) (bs : List ℕ) (i : ℕ) → i < length bs → (get_or bs i 0 ≡ stop → ⊥) → length (before stop (drop i bs)) ≡ suc (length (before stop (drop (i + 1) bs)))
-before_more stop bs i h e =
-    rw add-one (ap (λ l. length (before stop l)) (drop-cons bs i 0 h) ∙ ap (λ b. length (cond b [] (get_or bs i 0 ∷ before stop (drop (suc i) bs)))) (ne_eqb _ _ e))
-
-pub before_le : (stop : ℕ) (bs : List ℕ) → length (before stop bs) ≤ length bs
-before_le stop [] = omega arith
-before_le stop (c ∷ cs) = at (before_le stop cs) (eqb c stop)
+-- no s is left
+split_last : (s : ℕ) (bs : List ℕ) → length bs ≤ position_or_len (λ c. eqb c s) bs → split s bs ≡ bs ∷ []
+split_last s [] h = refl
+split_last s (c ∷ cs) h = at (split_last s cs) (eqb c s) h
   where
-    at : length (before stop cs) ≤ length cs → (b : Bool) → length (cond b [] (c ∷ before stop cs)) ≤ suc (length cs)
-    at h true = omega arith
-    at h false = omega arith
+    at : (length cs ≤ position_or_len (λ b. eqb b s) cs → split s cs ≡ cs ∷ []) → (b : Bool) → suc (length cs) ≤ cond (not b) (1 + position_or_len (λ d. eqb d s) cs) 0 → cond b ([] ∷ split s cs) (onto_first c (split s cs)) ≡ (c ∷ cs) ∷ []
+    at k true h = absurd (omega arith)
+    at k false h = ap (onto_first c) (k (omega arith))
 
--- the fields after the first, by the bytes from its end on
-abbrev pub tails : ℕ → List ℕ → List (List ℕ)
-tails s [] = []
-tails s (c ∷ cs) = split s cs
+module _ (s : ℕ) (bs : List ℕ) where
+  -- a piece ends at the first s
+  pub first_piece : (n : ℕ) → Some n ≡ position (λ c. eqb c s) bs → (n < length bs) × (split s bs ≡ take n bs ∷ split s (drop (n + 1) bs))
+  first_piece n p = at (ltb m (length bs)) refl p
+    where
+      m : ℕ
+      m = position_or_len (λ c. eqb c s) bs
 
-pub split_is : (s : ℕ) (bs : List ℕ) → split s bs ≡ take (length (before s bs)) bs ∷ tails s (drop (length (before s bs)) bs)
-split_is s [] = refl
-split_is s (c ∷ cs) = at (split_is s cs) (eqb c s)
-  where
-    at : split s cs ≡ take (length (before s cs)) cs ∷ tails s (drop (length (before s cs)) cs) → (b : Bool) → cond b ([] ∷ split s cs) (on_first c (split s cs)) ≡ take (length (cond b [] (c ∷ before s cs))) (c ∷ cs) ∷ tails s (drop (length (cond b [] (c ∷ before s cs))) (c ∷ cs))
-    at h true = refl
-    at h false = ap (on_first c) h
+      at : (b : Bool) → ltb m (length bs) ≡ b → Some n ≡ cond b (Some m) None → (n < length bs) × (split s bs ≡ take n bs ∷ split s (drop (n + 1) bs))
+      at true e q =
+          let i : m ≡ n = cc in
+          subst (λ k. (k < length bs) × (split s bs ≡ take k bs ∷ split s (drop (k + 1) bs))) i (ltb-true _ _ e, slice_split_first (λ c. eqb c s) bs 0 (ltb-true _ _ e))
+      at false e q = cc
 
--- the same of a part that was found to have n bytes
-pub split_at : (s : ℕ) (bs f a : List ℕ) (n : ℕ) → n ≡ length (before s bs) → f ≡ take n bs → a ≡ drop n bs → split s bs ≡ f ∷ tails s a
-split_at s bs f a n e p q = split_is s bs ∙ ap (λ k. take k bs ∷ tails s (drop k bs)) (sym e) ∙ (λ i. sym p i ∷ tails s (sym q i))
+  -- or with the list
+  pub last_piece : None ≡ position (λ c. eqb c s) bs → split s bs ≡ bs ∷ []
+  last_piece p = at (ltb m (length bs)) refl p
+    where
+      m : ℕ
+      m = position_or_len (λ c. eqb c s) bs
 
-pub tails_none : (s : ℕ) (a : List ℕ) → length a ≡ 0 → tails s a ≡ []
-tails_none s [] e = refl
-tails_none s (c ∷ cs) e = absurd (omega arith)
+      at : (b : Bool) → ltb m (length bs) ≡ b → None ≡ cond b (Some m) None → split s bs ≡ bs ∷ []
+      at true e q = cc
+      at false e q = split_last s bs (ltb-false _ _ e)
 
-pub tails_more : (s : ℕ) (a : List ℕ) → 0 < length a → tails s a ≡ split s (between 1 (length a) a)
-tails_more s [] e = absurd (omega arith)
-tails_more s (c ∷ cs) e = ap (split s) (sym (between_to_end (c ∷ cs) 1 _ (omega arith)))
-
-pub taken : (m : Bool) (bs f a : List ℕ) (n : ℕ) → m ≡ true → n ≡ length (before 44 bs) → f ≡ take n bs → a ≡ drop n bs → remaining m bs ≡ f ∷ tails 44 a
-taken true bs f a n h e p q = split_at 44 bs f a n e p q
-taken false bs f a n h e p q = let z : ◌≡◌ {A = Bool} false true = h in absurd (clash z)
-
-pub tails_drop : (s : ℕ) (a : List ℕ) → 0 < length a → tails s a ≡ split s (drop 1 a)
-tails_drop s [] e = absurd (omega arith)
-tails_drop s (c ∷ cs) e = refl
+-- one field, and what `get` gives of the others
+pub taken : (bs : List ℕ) (o : Option ℕ) (r : Option (Bor (List ℕ))) (n : ℕ) → o ≡ position (λ c. eqb c 44) bs → n ≡ unwrap_or o (length bs) → IsGetRangeResult bs (n + 1) (length bs) r → split 44 bs ≡ take n bs ∷ remaining r
+taken bs None None n p u g = last_piece 44 bs p ∙ ap (λ l. l ∷ []) (sym (take_all n bs (omega arith)))
+taken bs None (Some x) n p u g = absurd (omega arith)
+taken bs (Some k) None n p u g = let h = first_piece 44 bs k p in absurd (false≢true (g.1 (omega arith, omega arith)))
+taken bs (Some k) (Some x) n p u g =
+    let h = first_piece 44 bs k p in
+    let w : x.now ≡ drop (k + 1) bs = g.0.2 ∙ between_to_end bs (n + 1) (length bs) (omega arith) ∙ ap (λ i. drop (i + 1) bs) u in
+    h.1 ∙ (λ i. take (sym u i) bs ∷ split 44 (sym w i))

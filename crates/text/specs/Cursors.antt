@@ -4,4 +4,4 @@ use Rattle.text.specs.declared.fields.Fields.{Fields}
 use Rattle.text.specs.Fields.{remaining}
 
 abbrev pub left : Fields → List (List ℕ)
-left f = remaining f.more f.rest.now
+left f = remaining f.rest

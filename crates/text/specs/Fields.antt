@@ -1,26 +1,23 @@
 -- The pieces that a byte parts, and the fields of a value, which commas part.
-use Rattle.std.specs.Prelude.{ℕ, ◌+◌, ◌-◌, Bool, true, false, cond, List, [], ◌∷◌, length, Some, None, Ok, Err, Option, Result, ◌==◌}
+use Rattle.std.specs.Prelude.{ℕ, ◌+◌, ◌-◌, List, [], ◌∷◌, length, Some, None, Ok, Err, Option, Result, ◌==◌}
+use Rattle.std.specs.List.{slice_split}
+use Rattle.std.specs.Option.{ok_or}
+use denote.Ref.{Bor}
 use Rattle.text.specs.declared.BadField.{BadField}
-
--- the bytes before the first s
-abbrev pub before : ℕ → List ℕ → List ℕ
-before s [] = []
-before s (c ∷ cs) = cond (c == s) [] (c ∷ before s cs)
-
--- a byte more at the front of the first piece
-abbrev pub on_first : ℕ → List (List ℕ) → List (List ℕ)
-on_first c [] = (c ∷ []) ∷ []
-on_first c (f ∷ fs) = (c ∷ f) ∷ fs
 
 -- what each s parts: one piece more than there are s
 abbrev pub split : ℕ → List ℕ → List (List ℕ)
-split s [] = [] ∷ []
-split s (c ∷ cs) = cond (c == s) ([] ∷ split s cs) (on_first c (split s cs))
+split s bs = slice_split (λ c. c == s) bs
 
 -- the fields left in a value: none, or what commas (44) part
-abbrev pub remaining : Bool → List ℕ → List (List ℕ)
-remaining true bs = split 44 bs
-remaining false bs = []
+abbrev pub remaining : Option (Bor (List ℕ)) → List (List ℕ)
+remaining None = []
+remaining (Some r) = split 44 r.now
+
+-- how many bytes are left in a value, with the one after it
+abbrev pub width : Option (Bor (List ℕ)) → ℕ
+width None = 0
+width (Some r) = length r.now + 1
 
 -- the first field
 abbrev pub first_of : List (List ℕ) → Option (List ℕ)
@@ -57,16 +54,11 @@ and_then (Err e) next = Err e
 abbrev pub bad_at : ℕ → BadField
 bad_at p = record { place = p }
 
--- the value of a field that ends before place q, or the field is bad at its place p
-abbrev pub or_bad : {A : Type 0} → ℕ → ℕ → List (List ℕ) → Option A → Result (Got A) BadField
-or_bad p q fs (Some x) = Ok (record { value = x; place = q; left = fs })
-or_bad p q fs None = Err (bad_at p)
-
 -- the next field, at place p: its value, the place after its comma and the fields left;
 -- a missing field has the place of the ending byte, which is where the last field's comma would stand
 unfoldable pub field_at : {A : Type 0} → (List ℕ → Option A) → ℕ → List (List ℕ) → Result (Got A) BadField
 field_at reads p [] = Err (bad_at (p - 1))
-field_at reads p (f ∷ fs) = or_bad p (p + (length f + 1)) fs (reads f)
+field_at reads p (f ∷ fs) = got (ok_or (reads f) (bad_at p)) (p + (length f + 1)) fs
 
 -- no field is left; a surplus one has its place
 abbrev pub end_at : {A : Type 0} → A → ℕ → List (List ℕ) → Result A BadField

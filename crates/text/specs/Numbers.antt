@@ -1,6 +1,7 @@
 -- Numbers and words, by the bytes that write them.
 use Rattle.std.specs.Prelude.{ℕ, ◌+◌, ◌-◌, ◌*◌, Bool, true, false, cond, ◌&&◌, List, [], ◌∷◌, length, ℤ, pos, neg_ℤ, Some, None, codes, Option, ◌==◌, nat_le}
 use Rattle.std.specs.Option.{option_map}
+use Rattle.std.specs.Str.{bytes_eq}
 
 -- 0 to 9
 abbrev pub is_digit : ℕ → Bool
@@ -41,17 +42,10 @@ letter [] = None
 letter (c ∷ []) = cond (is_upper c) (Some c) None
 letter (c ∷ d ∷ cs) = None
 
--- the same bytes
-abbrev pub same : List ℕ → List ℕ → Bool
-same [] [] = true
-same [] (d ∷ ds) = false
-same (c ∷ cs) [] = false
-same (c ∷ cs) (d ∷ ds) = c == d && same cs ds
-
 -- a number, or the word none
 abbrev pub number_or_none : List ℕ → Option (Option ℕ)
-number_or_none bs = cond (same bs (codes "none")) (Some None) (option_map Some (natural bs))
+number_or_none bs = cond (bytes_eq bs (codes "none")) (Some None) (option_map Some (natural bs))
 
 -- yes or no
 abbrev pub yes_or_no : List ℕ → Option Bool
-yes_or_no bs = cond (same bs (codes "yes")) (Some true) (cond (same bs (codes "no")) (Some false) None)
+yes_or_no bs = cond (bytes_eq bs (codes "yes")) (Some true) (cond (bytes_eq bs (codes "no")) (Some false) None)

@@ -7,7 +7,7 @@ pub mod tokens;
 pub mod values;
 
 // The field that is ill-formed, missing or too many, by its place in the line.
-#[derive(Clone, Copy)]
+#[derive(Debug, Clone, Copy, PartialEq, Eq)]
 pub struct BadField {
     pub place: usize,
 }

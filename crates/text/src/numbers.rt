@@ -1,8 +1,9 @@
 // Numbers and words, by the bytes that write them.
-ghost use Rattle.std.specs.Prelude.{◌≡◌, ◌+◌, ◌*◌, ◌^◌, ◌<◌, ◌≤◌, length, IfSome, nat_le};
-ghost use Rattle.text.specs.Numbers.{digits_after, natural, negative, integer, same};
+ghost use Rattle.std.specs.Prelude.{◌≡◌, ◌+◌, ◌*◌, ◌^◌, ◌<◌, ◌≤◌, length, IfSome};
+ghost use Rattle.text.specs.Numbers.{digits_after, natural, negative, integer};
 
 // The number that digits write after `n`, or None at another byte.
+// A recursion over slice patterns: the product reads digits in this form.
 fn digits_after(n: u64, s: &[u8]) -> Option<u64>
     requires { (n + 1) * 10 ^ length s.now ≤ 1000000000000000 }
     ensures value { result ≡ digits_after n s.now }
@@ -17,13 +18,6 @@ fn digits_after(n: u64, s: &[u8]) -> Option<u64>
     }
 }
 
-// A number has at most 15 digits.
-fn few_digits(s: &[u8]) -> bool
-    ensures { result ≡ nat_le (length s.now) 15 }
-{
-    s.len() <= 15
-}
-
 // A number of 1 to 15 digits with no leading zero.
 pub fn natural_of(s: &[u8]) -> Option<u64>
     ensures value { result ≡ natural s.now }
@@ -31,7 +25,7 @@ pub fn natural_of(s: &[u8]) -> Option<u64>
 {
     match s {
         [b'0'] => Some(0),
-        [b'1'..=b'9', ..] if few_digits(s) => digits_after(0, s),
+        [b'1'..=b'9', ..] if s.len() <= 15 => digits_after(0, s),
         _ => None,
     }
 }
@@ -41,12 +35,8 @@ fn negative_of(s: &[u8]) -> Option<i64>
     ensures { result ≡ negative s.now }
 {
     match s {
-        [] => None,
         [b'0', ..] => None,
-        _ => match natural_of(s) {
-            Some(n) => Some(-(n as i64)),
-            None => None,
-        },
+        _ => natural_of(s).map(|n| -(n as i64)),
     }
 }
 
@@ -56,22 +46,6 @@ pub fn integer_of(s: &[u8]) -> Option<i64>
 {
     match s {
         [b'-', rest @ ..] => negative_of(rest),
-        _ => match natural_of(s) {
-            Some(n) => Some(n as i64),
-            None => None,
-        },
-    }
-}
-
-// Whether the bytes are those of a word.
-pub fn is_word(s: &[u8], word: &[u8]) -> bool
-    ensures { result ≡ same s.now word.now }
-{
-    match s {
-        [] => word.is_empty(),
-        [c, cs @ ..] => match word {
-            [d, ds @ ..] if *c == *d => is_word(cs, ds),
-            _ => false,
-        },
+        _ => natural_of(s).map(|n| n as i64),
     }
 }

@@ -4,7 +4,7 @@ ghost use Rattle.std.specs.Option.{option_map};
 ghost use Rattle.text.specs.Tokens.{word_of, shown};
 
 // A stretch of the file: a word, a letter, a number, or what parts them.
-#[derive(Clone, Copy)]
+#[derive(Debug, Clone, Copy, PartialEq, Eq)]
 pub enum Token<'a> {
     Key(&'a [u8]),
     Letter(&'a [u8]),

@@ -1,12 +1,12 @@
 // What the fields of a line stand for.
-ghost use Rattle.std.specs.Prelude.{◌≡◌, ℕ, ◌-◌, ◌≤◌, List, Option as Maybe};
+ghost use Rattle.std.specs.Prelude.{◌≡◌, ℕ, ◌≤◌, List, Option as Maybe};
 ghost use Rattle.text.specs.Cursors.{left};
-ghost use Rattle.text.specs.Fields.{got, bad_at, field_at, end_at, one_field, split};
+ghost use Rattle.text.specs.Fields.{got, field_at, end_at, one_field, split};
 ghost use Rattle.text.specs.Numbers.{natural, integer, letter, number_or_none, yes_or_no};
 
 use crate::BadField;
 use crate::fields::Fields;
-use crate::numbers::{integer_of, is_word, natural_of};
+use crate::numbers::{integer_of, natural_of};
 use crate::tokens::{Token, token_of};
 
 // What can stand in a field.
@@ -23,8 +23,8 @@ impl Value for u64 {
     ghost reads = { natural };
 
     fn of_field(field: &[u8]) -> Option<u64> {
-        match token_of(field) {
-            Some(Token::Number(digits)) => natural_of(digits),
+        match token_of(field)? {
+            Token::Number(digits) => natural_of(digits),
             _ => None,
         }
     }
@@ -35,11 +35,8 @@ impl Value for char {
     ghost reads = { letter };
 
     fn of_field(field: &[u8]) -> Option<char> {
-        match token_of(field) {
-            Some(Token::Letter(_)) => match field {
-                [c] => Some(*c as char),
-                _ => None,
-            },
+        match token_of(field)? {
+            Token::Letter([c]) => Some(*c as char),
             _ => None,
         }
     }
@@ -59,12 +56,9 @@ impl Value for Option<u64> {
     ghost reads = { number_or_none };
 
     fn of_field(field: &[u8]) -> Option<Option<u64>> {
-        if is_word(field, b"none") {
-            return Some(None);
-        }
-        match <u64 as Value>::of_field(field) {
-            Some(n) => Some(Some(n)),
-            None => None,
+        match field {
+            b"none" => Some(None),
+            _ => u64::of_field(field).map(Some),
         }
     }
 }
@@ -74,22 +68,12 @@ impl Value for bool {
     ghost reads = { yes_or_no };
 
     fn of_field(field: &[u8]) -> Option<bool> {
-        if is_word(field, b"yes") {
-            return Some(true);
+        match field {
+            b"yes" => Some(true),
+            b"no" => Some(false),
+            _ => None,
         }
-        if is_word(field, b"no") {
-            return Some(false);
-        }
-        None
     }
-}
-
-// A missing field is placed at the ending byte, just before where it would begin.
-fn missing(place: usize) -> BadField
-    requires { 1 ≤ place }
-    ensures { result ≡ bad_at (place - 1) }
-{
-    BadField { place: place - 1 }
 }
 
 // The next field.
@@ -97,13 +81,10 @@ pub fn take<T: Value + Drop>(f: &mut Fields) -> Result<T, BadField>
     ensures { got result f.new.place (left f.new) ≡ field_at T.Value.reads f.old.place (left f.old) }
 {
     let place = f.place();
-    let Some(field) = f.take_field() else {
-        return Err(missing(place));
-    };
-    match T::of_field(field) {
-        Some(value) => Ok(value),
-        None => Err(BadField { place }),
-    }
+
+    // A missing field is placed at the ending byte, just before where it would begin.
+    let field = f.take_field().ok_or(BadField { place: place - 1 })?;
+    T::of_field(field).ok_or(BadField { place })
 }
 
 // No field may be left.

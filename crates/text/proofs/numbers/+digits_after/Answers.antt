@@ -1,5 +1,5 @@
-use Rattle.std.proofs.Common.{◌≡◌, suc, ◌-◌, ◌<◌, length, get_or, take, drop, ◌∙◌, arith, rules}
-use Rattle.text.proofs.Digits.{small, room_more, digits_none, digits_more}
+use Rattle.std.proofs.Common.{◌≡◌, suc, ◌-◌, ◌<◌, length, get_or, take, drop, arith, rules}
+use Rattle.text.proofs.Digits.{small, room_more}
 use Rattle.text.proofs.numbers.+digits_after.Goals as goal
 
 pub overflow_mul-n : goal.overflow_mul-n
@@ -17,15 +17,3 @@ digits_after-requires t c =
       search rules,
       rw k (room_more c.args.n (get_or s 0 0 - 48) (length s - 1) _ (rw e at c.requires) (search rules)),
     )
-
-pub returns-in-empty : goal.returns-in-empty
-returns-in-empty t c = record {
-  value = digits_none c.args.n c.args.s.now (search rules);
-  bound = omega (arith, small c.args.n (length c.args.s.now) _ c.requires);
-}
-
-pub returns-in-48-to-57 : goal.returns-in-48-to-57
-returns-in-48-to-57 t c = record {
-  value = c.digits_after.ensures.value ∙ digits_more c.args.n c.args.s.now (search rules) (search rules) (search rules);
-  bound = c.digits_after.ensures.bound;
-}

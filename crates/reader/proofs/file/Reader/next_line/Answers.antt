@@ -1,43 +1,34 @@
-use Rattle.std.proofs.Common.{◌≡◌, ◌+◌, ◌<◌, ◌∷◌, length, drop, Some, Ok, sym, ap, ◌∙◌, arith, drop-drop, rules}
+use Rattle.std.proofs.Common.{◌≡◌, ◌+◌, List, length, take, drop, eqb, ℕ, Some, Ok, Err, sym, ap, ◌∙◌, arith, drop-drop, rules, tests}
+use Rattle.std.specs.List.{position, slice_range}
+use Rattle.std.proofs.lemmas.Iterator.{YieldsList-from_slice}
+use Rattle.std.proofs.lemmas.Iterator.Search.{position_from_yields_List}
+use Rattle.std.proofs.lemmas.List.Splits.{length-slice_split}
+use Rattle.std.proofs.lemmas.Slice.{between_to_end}
 use Rattle.text.specs.Fields.{split}
-use Rattle.text.proofs.Parting.{split_at, tails_none, tails_drop}
-use Rattle.reader.proofs.Turns.{at_end_lem, unended, one_line}
+use Rattle.text.proofs.Parting.{first_piece, last_piece}
+use Rattle.reader.specs.Faults.{on_line, no_line}
+use Rattle.reader.proofs.Turns.{unended, one_line}
 use Rattle.reader.proofs.file.Reader.next_line.Goals as goal
 
-pub returns-then-is_empty : goal.returns-then-is_empty
-returns-then-is_empty c =
+pub returns-in_default : goal.returns-in_default
+returns-in_default c =
     let s = c.args.self.now in
-    let rest = c.split_at.result.1.now in
-    let none : length rest ≡ 0 = search rules in
-    let same : rest ≡ drop s.at s.file.now = c.split_at.ensures.back in
-    at_end_lem s.line (drop s.at s.file.now) (ap length (sym same) ∙ none)
-
-pub returns-then-is_empty-2 : goal.returns-then-is_empty-2
-returns-then-is_empty-2 c =
-    let s = c.args.self.now in
-    let rest = c.split_at.result.1.now in
-    let f = c.split_at-2.result.0.now in
-    let a = c.split_at-2.result.1.now in
-    let none : length a ≡ 0 = search rules in
+    let rest : List ℕ = slice_range s.file.now s.at (length s.file.now) in
+    let e : rest ≡ drop s.at s.file.now = between_to_end s.file.now s.at _ (omega arith) in
+    let p : c.position.result ≡ position (λ b. eqb b 10) rest = position_from_yields_List (λ b. eqb b 10) _ _ c.position.result c.position.ensures.ran (YieldsList-from_slice rest cc) (λ x b q k. search (rules, tests)) in
     let some : (length rest ≡ 0 → ⊥) = search rules in
-    let parts = c.split_at-2.ensures in
-    let e = split_at 10 rest f a c.find-n.result c.find-n.ensures.value parts.front parts.back ∙ ap (λ l. f ∷ l) (tails_none 10 a none) in
-    unended s.line (split 10 (drop s.at s.file.now)) f (ap (split 10) (sym c.split_at.ensures.back) ∙ e) (omega (arith, parts.front_len, parts.back_len, some))
+    let f : c.on.result ≡ on_line s.line no_line = λ i. record { line = c.on.ensures.0 i; fault = c.on.ensures.1 i } in
+    ap Err f ∙ unended s.line _ rest (ap (split 10) (sym e) ∙ last_piece 10 rest (sym c.in_default.is ∙ p)) (omega (arith, some))
 
 pub returns : goal.returns
 returns c =
     let s = c.args.self.now in
-    let file = s.file.now in
-    let n = c.find-n.result in
-    let rest = c.split_at.result.1.now in
-    let f = c.split_at-2.result.0.now in
-    let a = c.split_at-2.result.1.now in
-    let some : 0 < length a = search rules in
-    let parts = c.split_at-2.ensures in
-    let back = c.split_at.ensures.back in
-    let e = split_at 10 rest f a n c.find-n.ensures.value parts.front parts.back ∙ ap (λ l. f ∷ l) (tails_drop 10 a some) in
-    let after : drop 1 a ≡ drop (s.at + (n + 1)) file =
-    ap (drop 1) (parts.back ∙ ap (drop n) back ∙ drop-drop n s.at file) ∙ drop-drop 1 (s.at + n) file ∙ ap (λ k. drop k file) (omega arith) in
-    let p = c.pass.ensures in
-    (λ i. Ok (record { value = Some f; place = p.line i; left = split 10 (drop (p.at i) (p.file i)) }))
-    ∙ one_line s.line (split 10 (drop s.at file)) f (drop (s.at + (n + 1)) file) (ap (split 10) (sym back) ∙ e ∙ ap (λ l. f ∷ split 10 l) after)
+    let n = c.in-Some.n in
+    let bs = drop s.at s.file.now in
+    let rest : List ℕ = slice_range s.file.now s.at (length s.file.now) in
+    let e : rest ≡ bs = between_to_end s.file.now s.at _ (omega arith) in
+    let p : c.position.result ≡ position (λ b. eqb b 10) rest = position_from_yields_List (λ b. eqb b 10) _ _ c.position.result c.position.ensures.ran (YieldsList-from_slice rest cc) (λ x b q k. search (rules, tests)) in
+    let h = first_piece 10 bs n (sym c.in-Some.is ∙ p ∙ ap (position (λ b. eqb b 10)) e) in
+    let d = drop-drop (n + 1) s.at s.file.now in
+    (λ i. Ok (record { value = Some (take n (e i)); place = s.line + 1; left = split 10 (sym d i) }))
+    ∙ one_line s.line (split 10 bs) _ (take n bs) h.1 (omega (arith, length-slice_split (λ b. eqb b 10) (drop (n + 1) bs)))

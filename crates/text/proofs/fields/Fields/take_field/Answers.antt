@@ -1,31 +1,24 @@
-use Rattle.std.proofs.Common.{◌≡◌, ◌<◌, true, length, sym, ap, ◌∙◌, arith, rules}
-use Rattle.std.specs.List.{between}
+use Rattle.std.proofs.Common.{◌≡◌, ◌≤◌, ◌∷◌, length, take, eqb, Some, sym, ap, ◌∙◌, arith, rules, tests}
+use Rattle.std.specs.List.{position}
+use Rattle.std.proofs.lemmas.List.{length-take-le}
+use Rattle.std.proofs.lemmas.Iterator.{YieldsList-from_slice}
+use Rattle.std.proofs.lemmas.Iterator.Search.{position_from_yields_List}
 use Rattle.text.specs.Fields.{remaining, first_of, rest_of, place_after}
-use Rattle.text.proofs.Parting.{taken, tails_none, tails_more}
+use Rattle.text.proofs.Parting.{taken}
 use Rattle.text.proofs.fields.Fields.take_field.Goals as goal
 
-pub returns-in-empty : goal.returns-in-empty
-returns-in-empty c =
+pub returns : goal.returns
+returns c =
     let s = c.args.self.now in
-    let on : s.more ≡ true = search rules in
-    let none : length c.split_at.result.1.now ≡ 0 = search rules in
-    let parts = c.split_at.ensures in
-    let h = taken s.more s.rest.now c.split_at.result.0.now c.split_at.result.1.now c.find-n.result on c.find-n.ensures.value parts.front parts.back in
+    let bs = c.in_ok-rest.rest.now in
+    let o = c.position.result in
+    let n = c.unwrap_or-n.result in
+    let p : o ≡ position (λ b. eqb b 44) bs = position_from_yields_List (λ b. eqb b 44) _ _ o c.position.ensures.ran (YieldsList-from_slice bs cc) (λ x b q k. search (rules, tests)) in
+    let e : s.rest ≡ Some c.in_ok-rest.rest = search rules in
+    let h : remaining s.rest ≡ take n bs ∷ remaining c.get-self.result = ap remaining e ∙ taken bs o c.get-self.result n p c.unwrap_or-n.ensures c.get-self.ensures.lookup in
+    let le : n ≤ length bs = search rules in
     record {
       value = sym (ap first_of h);
-      rest = sym (ap rest_of h ∙ tails_none 44 c.split_at.result.1.now none);
-      place = omega (arith, ap (place_after s.place) h, parts.front_len);
-    }
-
-pub returns-in-len1-up : goal.returns-in-len1-up
-returns-in-len1-up c =
-    let s = c.args.self.now in
-    let on : s.more ≡ true = search rules in
-    let some : 0 < length c.split_at.result.1.now = search rules in
-    let parts = c.split_at.ensures in
-    let h = taken s.more s.rest.now c.split_at.result.0.now c.split_at.result.1.now c.find-n.result on c.find-n.ensures.value parts.front parts.back in
-    record {
-      value = sym (ap first_of h);
-      rest = ap (λ m. remaining m (between 1 (length c.split_at.result.1.now) c.split_at.result.1.now)) on ∙ sym (ap rest_of h ∙ tails_more 44 c.split_at.result.1.now some);
-      place = omega (arith, ap (place_after s.place) h, parts.front_len);
+      rest = sym (ap rest_of h);
+      place = omega (arith, ap (place_after s.place) h, length-take-le n bs le);
     }
