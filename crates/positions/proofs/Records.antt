@@ -12,12 +12,12 @@ use Rattle.positions.specs.Records.{decide, judged, ranged, kinds_of, sides_of, 
 
 -- what is made of an option is what it holds
 pub made_of : {A E : Type 0} (o : Option A) (fault : E) (x : A) → Ok x ≡ ok_or o fault → Some x ≡ o
-made_of (Some y) fault x e = cc
-made_of None fault x e = let z : ◌≡◌ {A = ℕ} 0 1 = cc in absurd (omega arith)
+made_of (Some y) fault x e = grind arith
+made_of None fault x e = grind arith
 
 pub decided : {A : Type 0} (b : Bool) (make : b ≡ true → A) (other : A) (ok : b ≡ true) → decide b make other ≡ make ok
 decided true make other ok = ap make (Bool-set true true refl ok)
-decided false make other ok = let z : ◌≡◌ {A = ℕ} 0 1 = cc in absurd (omega arith)
+decided false make other ok = grind arith
 
 -- a record whose fields passed
 pub recorded : (size : ℕ) (e : Entry) (side : Side) (kind : Kind) → Some side ≡ side_of e.side → Some kind ≡ kind_for side e.kind → Ok tt ≡ judged size e kind → (ok : in_range side kind e.strike e.days e.price ≡ true) → Ok (record { side = side; kind = kind; strike = e.strike; days = e.days; price = e.price; quantity = e.quantity; ranged = ok }) ≡ record_of size e

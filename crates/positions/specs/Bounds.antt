@@ -1,14 +1,13 @@
 -- Lemmas: what the numbers of a record in range are at most, on which the limits of a book rest.
 -- They stand here, and not in `proofs/`, since a ghost member of an implementation may cite nothing outside `specs/`; no contract speaks of them.
-use Rattle.std.specs.Prelude.{◌≡◌, ℕ, ◌≤◌, true, ◌&&◌, nat_le}
+use Rattle.std.specs.Prelude.{◌≡◌, ℕ, ◌≤◌, true, nat_le}
 use Rattle.std.proofs.Common.{arith}
 use Rattle.std.proofs.lemmas.Bool.{and_parts, leb-true}
 use Rattle.positions.specs.declared.Side.{Side}
 use Rattle.positions.specs.declared.Kind.{Kind}
 use Rattle.positions.specs.declared.Kind.TheVariants.{Units, Call, Put, Futures, Receipt}
 use Rattle.positions.specs.declared.Range.{Range}
-use Rattle.positions.specs.Letters.{sided}
-use Rattle.positions.specs.Ranges.{holds, in_range, strike_range, day_range, price_range}
+use Rattle.positions.specs.Ranges.{holds, in_range, strike_range, price_range}
 
 -- the highest of each range
 strike_top : (kind : Kind) → (strike_range kind).high ≤ 500000
@@ -30,15 +29,8 @@ holds_high r n h = leb-true n r.high (and_parts (nat_le r.low n) (nat_le n r.hig
 
 pub strike_high : (side : Side) (kind : Kind) (strike days price : ℕ) → in_range side kind strike days price ≡ true → strike ≤ 500000
 unfolding in_range
-strike_high side kind strike days price h =
-    let a = and_parts (sided side kind) (holds (strike_range kind) strike && (holds (day_range kind) days && holds (price_range kind) price)) h in
-    let b = and_parts (holds (strike_range kind) strike) (holds (day_range kind) days && holds (price_range kind) price) a.1 in
-    omega (arith, holds_high (strike_range kind) strike b.0, strike_top kind)
+strike_high side kind strike days price h = grind (arith, strike_top kind, holds_high (strike_range kind) strike)
 
 pub price_high : (side : Side) (kind : Kind) (strike days price : ℕ) → in_range side kind strike days price ≡ true → price ≤ 500000
 unfolding in_range
-price_high side kind strike days price h =
-    let a = and_parts (sided side kind) (holds (strike_range kind) strike && (holds (day_range kind) days && holds (price_range kind) price)) h in
-    let b = and_parts (holds (strike_range kind) strike) (holds (day_range kind) days && holds (price_range kind) price) a.1 in
-    let c = and_parts (holds (day_range kind) days) (holds (price_range kind) price) b.1 in
-    omega (arith, holds_high (price_range kind) price c.1, price_top kind)
+price_high side kind strike days price h = grind (arith, price_top kind, holds_high (price_range kind) price)

@@ -1,8 +1,7 @@
-ghost use Rattle.std.specs.Prelude.{◌≡◌, ◌≤◌, OnOk, ok_or};
-ghost use Rattle.positions.specs.Ranges.{quantity_range, holds, checked};
+ghost use Rattle.std.specs.Prelude.{◌≡◌, ◌≤◌, true, IfOk, OnOk, ok_or};
+ghost use Rattle.positions.specs.Ranges.{quantity_range, checked, Judged};
 ghost use Rattle.positions.specs.Records.{judged, record_of, no_record};
-ghost use Rattle.positions.specs.Ranges.{Judged};
-ghost use Rattle.positions.specs.Letters.{kind_for};
+ghost use Rattle.positions.specs.Letters.{kind_for, sided};
 
 use crate::record::Record;
 use crate::{
@@ -24,20 +23,12 @@ pub fn quantity_range(size: ContractSize, kind: Kind) -> Range
 
 // The kind that a letter stands for on a side: a receipt is never short.
 fn kind_for(side: Side, letter: char) -> Result<Kind, RecordFault>
-    ensures { result ≡ ok_or (kind_for side letter) (RecordFault.OutOfRange Field.Kind) }
+    ensures value { result ≡ ok_or (kind_for side letter) (RecordFault.OutOfRange Field.Kind) }
+    ensures sided { IfOk result (λ kind. sided side kind ≡ true) }
 {
     match (side, Kind::try_from(letter)?) {
         (Side::Short, Kind::Receipt) => Err(RecordFault::OutOfRange(Field::Kind)),
         (_, kind) => Ok(kind),
-    }
-}
-
-impl Range {
-    // Whether the number lies in the range.
-    fn contains(self, n: u64) -> bool
-        ensures { result ≡ holds self n }
-    {
-        (self.low..=self.high).contains(&n)
     }
 }
 

@@ -3,7 +3,7 @@
 
 ghost use Rattle.std.specs.Prelude.{◌≡◌, ◌≤◌, Some};
 ghost use Rattle.positions.specs.Kinds.{other_side};
-ghost use Rattle.positions.specs.Ranges.{from_to, strike_range, day_range, price_range, quantity_range};
+ghost use Rattle.positions.specs.Ranges.{from_to, holds, strike_range, day_range, price_range, quantity_range};
 ghost use Rattle.positions.specs.Refusals.{field_number, refusal_number, refusal_detail, refusal_text};
 
 mod checks;
@@ -63,7 +63,7 @@ pub struct Entry {
 }
 
 // The lowest and the highest number that a field may hold.
-// A range of its own: a definition cannot make a `RangeInclusive`, whose fields are the library's own.
+// A range of its own: a definition cannot name the type `RangeInclusive`, and each contract would say its two ends and that none is spent.
 #[derive(Clone, Copy, Debug, PartialEq, Eq)]
 pub struct Range {
     pub low: u64,
@@ -110,7 +110,16 @@ impl fmt::Display for RecordFault {
 
 impl Error for RecordFault {}
 
-pub(crate) fn from_to(low: u64, high: u64) -> Range
+impl Range {
+    // Whether the number lies in the range, its ends included.
+    fn contains(self, n: u64) -> bool
+        ensures { result ≡ holds self n }
+    {
+        (self.low..=self.high).contains(&n)
+    }
+}
+
+fn from_to(low: u64, high: u64) -> Range
     ensures { result ≡ from_to low high }
 {
     Range { low, high }
