@@ -3,7 +3,6 @@ use Rattle.std.specs.Prelude.{ℕ, Ok, Result}
 use Rattle.market.specs.Quote.{Quote}
 use Rattle.positions.specs.declared.Side.{Side}
 use Rattle.positions.specs.declared.Side.TheVariants.{Long, Short}
-use Rattle.positions.specs.declared.Kind.{Kind}
 use Rattle.positions.specs.declared.Kind.TheVariants.{Units, Call, Put, Futures, Receipt}
 use Rattle.positions.specs.Kinds.{other_side}
 use Rattle.positions.specs.Records.{Terms}

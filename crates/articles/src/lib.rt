@@ -79,7 +79,7 @@ impl Leg {
 }
 
 impl ArticleFault {
-    // The number by which the cause is known.
+    // The number by which the cause is known: replies give it, and the format of files fixes it.
     pub fn cause(self) -> u8
         ensures { result ≡ cause_number self }
     {

@@ -1,7 +1,7 @@
 // A book as a docket knows it: four tables that never change, and a question for each.
 #![tactic(auto)]
 
-ghost use Rattle.std.specs.Prelude.{◌≡◌, length};
+ghost use Rattle.std.specs.Prelude.{◌≡◌, ◌≤◌, length};
 ghost use Rattle.articles.specs.Causes.{leg_or_zero};
 ghost use Rattle.books.specs.Tables.{Tables, Has, Lawful};
 
@@ -23,7 +23,8 @@ pub struct BookFault {
 impl BookFault {
     // The number of the leg that is named, 0 for none.
     pub fn leg_number(self) -> u8
-        ensures { result ≡ leg_or_zero self.leg }
+        ensures value { result ≡ leg_or_zero self.leg }
+        ensures bound { result ≤ 3 }
     {
         self.leg.map_or(0, |leg| leg.number())
     }

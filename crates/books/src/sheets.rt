@@ -111,7 +111,7 @@ impl Listed for CurrencySheet {
     }
 }
 
-// Either sheet.
+// Either sheet. A docket keeps one type of book, so this is one too, and each answer is its sheet's.
 #[derive(Clone, Copy)]
 pub enum Sheet {
     Share(ShareSheet),

@@ -57,6 +57,7 @@ pub fn in_the_money(right: Right, strike: Cents, price: Cents) -> Cents
 }
 
 // How far the price is from where exercise would bring something, in cents a unit.
+// It is `in_the_money` with strike and price exchanged, and no plainer so: each of the two reads as the rule states it.
 pub fn out_of_the_money(right: Right, strike: Cents, price: Cents) -> Cents
     ensures { result.amount ≡ out_of_the_money right strike.amount price.amount }
 {
