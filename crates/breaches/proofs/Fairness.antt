@@ -6,7 +6,7 @@ use Rattle.books.specs.Tables.{Tables, Lawful}
 use Rattle.pairing.specs.Pairing.{requirement, Allowed, worth, Fair}
 use Rattle.breaches.specs.declared.Breach.{Breach}
 use Rattle.breaches.specs.declared.Breach.TheVariants as breach
-use Rattle.breaches.specs.Search.{set_with, set_at, first_breach, Limited, NoneExactlyIfFair}
+use Rattle.breaches.specs.Search.{legs_of, set_at, first_breach, Limited, NoneExactlyIfFair}
 use Rattle.breaches.specs.First.{Breaks}
 use Rattle.breaches.proofs.Least.{none_breaks, search_finds_first}
 
@@ -18,11 +18,11 @@ not_over n m h k = grind (arith, ints)
 
 module _ (t : Tables) (lawful : Lawful t) (s : ℕ) (held : List Record) (ms : List ℤ) where
   -- an allowed set has two legs, or three
-  by_legs : ((c : Breach) → Breaks t s held ms c → ⊥) → (a : ℕ) (qs : List ℕ) → Allowed t s held (set_with a qs) → pos (requirement t s held (set_with a qs)) <ℤ worth s held ms qs → ⊥
+  by_legs : ((c : Breach) → Breaks t s held ms c → ⊥) → (a : ℕ) (qs : List ℕ) → Allowed t s held (record { article = a; legs = qs }) → pos (requirement t s held (record { article = a; legs = qs })) <ℤ worth s held ms qs → ⊥
   by_legs none a [] h o = let low = lawful.legs_low a h.article in omega (arith, h.legs)
   by_legs none a (i ∷ []) h o = let low = lawful.legs_low a h.article in omega (arith, h.legs)
-  by_legs none a (i ∷ j ∷ []) h o = none (breach.Set a i j None) (record { allowed = h; over = o })
-  by_legs none a (i ∷ j ∷ k ∷ []) h o = none (breach.Set a i j (Some k)) (record { allowed = h; over = o })
+  by_legs none a (i ∷ j ∷ []) h o = none (breach.Set a (legs_of i j None)) (record { allowed = h; over = o })
+  by_legs none a (i ∷ j ∷ k ∷ []) h o = none (breach.Set a (legs_of i j (Some k))) (record { allowed = h; over = o })
   by_legs none a (i ∷ j ∷ k ∷ l ∷ qs) h o = let high = lawful.legs_high a h.article in omega (arith, h.legs)
 
   fair_from : length ms ≡ length held → Limited held ms → first_breach t s held ms ≡ None → Fair t s held ms
@@ -37,7 +37,7 @@ module _ (t : Tables) (lawful : Lawful t) (s : ℕ) (held : List Record) (ms : L
 
   unbroken : Fair t s held ms → (c : Breach) → Breaks t s held ms c → ⊥
   unbroken fair (breach.Alone p) h = not_over _ _ (fair.alone p h.position) h.over
-  unbroken fair (breach.Set a i j k) h = not_over _ _ (fair.sets (set_at a i j k) h.allowed) h.over
+  unbroken fair (breach.Set a l) h = not_over _ _ (fair.sets (set_at a l) h.allowed) h.over
 
   none_from : Fair t s held ms → (r : Option Breach) → r ≡ first_breach t s held ms → r ≡ None
   none_from fair None e = refl

@@ -9,8 +9,9 @@ use Rattle.books.specs.declared.BookFault.{BookFault}
 use Rattle.books.specs.Tables.{Tables, Lawful, Has}
 use Rattle.pairing.specs.Pairing.{Position, Positions, distinct, answer, amount, requirement, worth}
 use Rattle.breaches.specs.declared.Breach.{Breach}
+use Rattle.breaches.specs.declared.Legs.{Legs}
 use Rattle.breaches.specs.declared.Breach.TheVariants as breach
-use Rattle.breaches.specs.Search.{above, unfair, legs_at, set_at, alone_breach, set_breach, third_of_three, third_leg, second_leg, first_leg, first_alone, first_article, first_breach}
+use Rattle.breaches.specs.Search.{above, unfair, legs_of, legs_in, set_at, alone_breach, set_breach, third_of_three, third_leg, second_leg, first_leg, first_alone, first_article, first_breach}
 use Rattle.breaches.proofs.Firsts.{Hit, found, none_found, or_none, or_some}
 use Rattle.breaches.specs.First.{AloneBreach, SetBreach, Breaks, LegNotAfter, NotAfter, First, SearchFindsFirst}
 
@@ -53,24 +54,24 @@ module _ (t : Tables) (law : Lawful t) (s : ℕ) (held : List Record) (ms : List
   alone_none : (p : ℕ) → AloneBreach t s held ms p → alone_breach t s held ms p ≡ None → ⊥
   alone_none p h e = then_some_none _ (breach.Alone p) (from_over _ _ h.over) e
 
-  set_some : (a i j : ℕ) (k : Option ℕ) (b : Breach) → Has t a → length (legs_at i j k) ≡ t.legs a → Positions held (legs_at i j k) → set_breach t s held ms a i j k ≡ Some b → (breach.Set a i j k ≡ b) × SetBreach t s held ms (set_at a i j k)
-  set_some a i j k b has legs ps h =
-      let x = set_at a i j k in
-      let w = then_some_is _ (breach.Set a i j k) b h in
+  set_some : (a : ℕ) (l : Legs) (b : Breach) → Has t a → length (legs_in l) ≡ t.legs a → Positions held (legs_in l) → set_breach t s held ms a l ≡ Some b → (breach.Set a l ≡ b) × SetBreach t s held ms (set_at a l)
+  set_some a l b has legs ps h =
+      let x = set_at a l in
+      let w = then_some_is _ (breach.Set a l) b h in
       let parts = and_parts (distinct x.legs) (unfair t s held ms x) w.0 in
       let asked = by_answer (answer t s held x) (worth s held ms x.legs) parts.1 in
       (w.1, record { allowed = record { article = has; legs = legs; positions = ps; apart = parts.0; granted = asked.0 }; over = asked.1 })
 
-  set_none : (a i j : ℕ) (k : Option ℕ) → SetBreach t s held ms (set_at a i j k) → set_breach t s held ms a i j k ≡ None → ⊥
-  set_none a i j k h e =
-      let x = set_at a i j k in
+  set_none : (a : ℕ) (l : Legs) → SetBreach t s held ms (set_at a l) → set_breach t s held ms a l ≡ None → ⊥
+  set_none a l h e =
+      let x = set_at a l in
       let allowed = h.allowed in
-      then_some_none _ (breach.Set a i j k)
+      then_some_none _ (breach.Set a l)
       (and_from (distinct x.legs) (unfair t s held ms x) allowed.apart
       (ap (λ r. above r (worth s held ms x.legs)) allowed.granted ∙ from_over (requirement t s held x) (worth s held ms x.legs) h.over))
       e
 
-  two_legs : (a i j : ℕ) → t.legs a ≡ 2 → third_leg t s held ms a i j ≡ set_breach t s held ms a i j None
+  two_legs : (a i j : ℕ) → t.legs a ≡ 2 → third_leg t s held ms a i j ≡ set_breach t s held ms a (legs_of i j None)
   two_legs a i j e = cond-true (eqb (t.legs a) 2) _ _ (eq-eqb (t.legs a) 2 e)
 
   three_legs : (a i j : ℕ) → t.legs a ≡ 3 → third_leg t s held ms a i j ≡ third_of_three t s held ms a i j
@@ -78,44 +79,44 @@ module _ (t : Tables) (law : Lawful t) (s : ℕ) (held : List Record) (ms : List
 
   -- ---- a breach is not passed over
 
-  third_none : (a i j : ℕ) (k : Option ℕ) → SetBreach t s held ms (set_at a i j k) → third_leg t s held ms a i j ≡ None → ⊥
-  third_none a i j None h e = let allowed = h.allowed in set_none a i j None h (sym (two_legs a i j (sym allowed.legs)) ∙ e)
+  third_none : (a i j : ℕ) (k : Option ℕ) → SetBreach t s held ms (set_at a (legs_of i j k)) → third_leg t s held ms a i j ≡ None → ⊥
+  third_none a i j None h e = let allowed = h.allowed in set_none a (legs_of i j None) h (sym (two_legs a i j (sym allowed.legs)) ∙ e)
   third_none a i j (Some k) h e =
       let allowed = h.allowed in
       let ps = allowed.positions in
       let p = ps.1.1.0 in
-      set_none a i j (Some k) h
-      (none_found (λ q. set_breach t s held ms a i j (Some q)) 1 (length held) (sym (three_legs a i j (sym allowed.legs)) ∙ e) k p.0 (omega arith))
+      set_none a (legs_of i j (Some k)) h
+      (none_found (λ q. set_breach t s held ms a (legs_of i j (Some q))) 1 (length held) (sym (three_legs a i j (sym allowed.legs)) ∙ e) k p.0 (omega arith))
 
-  one_held : (a i j : ℕ) (k : Option ℕ) → SetBreach t s held ms (set_at a i j k) → Position held i × Position held j
-  one_held a i j None h = let allowed = h.allowed in let ps = allowed.positions in (ps.0, ps.1.0)
-  one_held a i j (Some k) h = let allowed = h.allowed in let ps = allowed.positions in (ps.0, ps.1.0)
+  second_none : (a : ℕ) (l : Legs) → SetBreach t s held ms (set_at a l) → second_leg t s held ms a l.first ≡ None → ⊥
+  second_none a l h e =
+      let allowed = h.allowed in
+      let ps = allowed.positions in
+      let p = ps.1.0 in
+      third_none a l.first l.second l.third h (none_found (third_leg t s held ms a l.first) 1 (length held) e l.second p.0 (omega arith))
 
-  second_none : (a i j : ℕ) (k : Option ℕ) → SetBreach t s held ms (set_at a i j k) → second_leg t s held ms a i ≡ None → ⊥
-  second_none a i j k h e =
-      let p = (one_held a i j k h).1 in
-      third_none a i j k h (none_found (third_leg t s held ms a i) 1 (length held) e j p.0 (omega arith))
-
-  first_none : (a i j : ℕ) (k : Option ℕ) → SetBreach t s held ms (set_at a i j k) → first_leg t s held ms a ≡ None → ⊥
-  first_none a i j k h e =
-      let p = (one_held a i j k h).0 in
-      second_none a i j k h (none_found (second_leg t s held ms a) 1 (length held) e i p.0 (omega arith))
+  first_none : (a : ℕ) (l : Legs) → SetBreach t s held ms (set_at a l) → first_leg t s held ms a ≡ None → ⊥
+  first_none a l h e =
+      let allowed = h.allowed in
+      let ps = allowed.positions in
+      let p = ps.0 in
+      second_none a l h (none_found (second_leg t s held ms a) 1 (length held) e l.first p.0 (omega arith))
 
   alone_passed : (p : ℕ) → AloneBreach t s held ms p → first_alone t s held ms ≡ None → ⊥
   alone_passed p h e = let q = h.position in alone_none p h (none_found (alone_breach t s held ms) 1 (length held) e p q.0 (omega arith))
 
   pub none_breaks : first_breach t s held ms ≡ None → (c : Breach) → Breaks t s held ms c → ⊥
   none_breaks e (breach.Alone p) h = alone_passed p h (or_none _ _ e).0
-  none_breaks e (breach.Set a i j k) h =
+  none_breaks e (breach.Set a l) h =
       let allowed = h.allowed in
       let has = allowed.article in
-      first_none a i j k h (none_found (first_leg t s held ms) 1 t.articles (or_none _ _ e).1 a has.0 (omega arith))
+      first_none a l h (none_found (first_leg t s held ms) 1 t.articles (or_none _ _ e).1 a has.0 (omega arith))
 
   -- ---- found alone
 
   alone_order : (b : Breach) (h : Hit (alone_breach t s held ms) 1 (length held) b) (c : Breach) → Breaks t s held ms c → NotAfter (breach.Alone h.place) c
   alone_order b h (breach.Alone q) k = ⊎_elim (λ l. let p = k.position in absurd (alone_none q k (h.before q p.0 l))) (λ l. l) (cases_lt q h.place)
-  alone_order b h (breach.Set a i j n) k = tt
+  alone_order b h (breach.Set a l) k = tt
 
   alone_first : (b : Breach) → first_alone t s held ms ≡ Some b → First t s held ms b
   alone_first b e =
@@ -127,20 +128,22 @@ module _ (t : Tables) (law : Lawful t) (s : ℕ) (held : List Record) (ms : List
   -- ---- found in an article
 
   module _ (b : Breach) (none : first_alone t s held ms ≡ None) (ha : Hit (first_leg t s held ms) 1 t.articles b) (hi : Hit (second_leg t s held ms ha.place) 1 (length held) b) (hj : Hit (third_leg t s held ms ha.place hi.place) 1 (length held) b) where
-    set_order : (k : Option ℕ) → ((n : Option ℕ) → SetBreach t s held ms (set_at ha.place hi.place hj.place n) → LegNotAfter k n) → (c : Breach) → Breaks t s held ms c → NotAfter (breach.Set ha.place hi.place hj.place k) c
+    set_order : (k : Option ℕ) → ((n : Option ℕ) → SetBreach t s held ms (set_at ha.place (legs_of hi.place hj.place n)) → LegNotAfter k n) → (c : Breach) → Breaks t s held ms c → NotAfter (breach.Set ha.place (legs_of hi.place hj.place k)) c
     set_order k last (breach.Alone q) h = alone_passed q h none
-    set_order k last (breach.Set d l m n) h =
+    set_order k last (breach.Set d l) h =
         let allowed = h.allowed in
         let has = allowed.article in
-        let ps = one_held d l m n h in
-        order ha d has.0 (first_none d l m n h)
+        let ps = allowed.positions in
+        let one = ps.0 in
+        let other = ps.1.0 in
+        order ha d has.0 (first_none d l h)
         (λ ea.
-        let ka = subst (λ z. SetBreach t s held ms (set_at z l m n)) (sym ea) h in
-        order hi l ps.0.0 (second_none _ l m n ka)
+        let ka = subst (λ z. SetBreach t s held ms (set_at z l)) (sym ea) h in
+        order hi l.first one.0 (second_none _ l ka)
         (λ ei.
-        let ki = subst (λ z. SetBreach t s held ms (set_at ha.place z m n)) (sym ei) ka in
-        order hj m ps.1.0 (third_none _ _ m n ki)
-        (λ ej. last n (subst (λ z. SetBreach t s held ms (set_at ha.place hi.place z n)) (sym ej) ki))))
+        let ki = subst (λ z. SetBreach t s held ms (set_at ha.place (legs_of z l.second l.third))) (sym ei) ka in
+        order hj l.second other.0 (third_none _ _ l.second l.third ki)
+        (λ ej. last l.third (subst (λ z. SetBreach t s held ms (set_at ha.place (legs_of hi.place z l.third))) (sym ej) ki))))
 
     has_a : Has t ha.place
     has_a = let high = ha.high in (ha.low, omega arith)
@@ -153,22 +156,22 @@ module _ (t : Tables) (law : Lawful t) (s : ℕ) (held : List Record) (ms : List
 
     two_first : t.legs ha.place ≡ 2 → First t s held ms b
     two_first n =
-        let w = set_some ha.place hi.place hj.place None b has_a (sym n) (held_i, (held_j, tt)) (sym (two_legs _ _ _ n) ∙ hj.is) in
+        let w = set_some ha.place (legs_of hi.place hj.place None) b has_a (sym n) (held_i, (held_j, tt)) (sym (two_legs _ _ _ n) ∙ hj.is) in
         subst (First t s held ms) w.0 (record { breaks = w.1; first = set_order None (λ m h. tt) })
 
-    third_order : t.legs ha.place ≡ 3 → (hk : Hit (λ k. set_breach t s held ms ha.place hi.place hj.place (Some k)) 1 (length held) b) (n : Option ℕ) → SetBreach t s held ms (set_at ha.place hi.place hj.place n) → LegNotAfter (Some hk.place) n
+    third_order : t.legs ha.place ≡ 3 → (hk : Hit (λ k. set_breach t s held ms ha.place (legs_of hi.place hj.place (Some k))) 1 (length held) b) (n : Option ℕ) → SetBreach t s held ms (set_at ha.place (legs_of hi.place hj.place n)) → LegNotAfter (Some hk.place) n
     third_order legs hk None h = let allowed = h.allowed in let two = allowed.legs in omega arith
     third_order legs hk (Some n) h =
         let allowed = h.allowed in
         let ps = allowed.positions in
         let p = ps.1.1.0 in
-        ⊎_elim (λ l. absurd (set_none _ _ _ (Some n) h (hk.before n p.0 l))) (λ l. l) (cases_lt n hk.place)
+        ⊎_elim (λ l. absurd (set_none _ (legs_of hi.place hj.place (Some n)) h (hk.before n p.0 l))) (λ l. l) (cases_lt n hk.place)
 
     three_first : t.legs ha.place ≡ 3 → First t s held ms b
     three_first n =
-        let hk = found (λ k. set_breach t s held ms ha.place hi.place hj.place (Some k)) 1 (length held) b (sym (three_legs _ _ _ n) ∙ hj.is) in
+        let hk = found (λ k. set_breach t s held ms ha.place (legs_of hi.place hj.place (Some k))) 1 (length held) b (sym (three_legs _ _ _ n) ∙ hj.is) in
         let high = hk.high in
-        let w = set_some ha.place hi.place hj.place (Some hk.place) b has_a (sym n) (held_i, (held_j, ((hk.low, omega arith), tt))) hk.is in
+        let w = set_some ha.place (legs_of hi.place hj.place (Some hk.place)) b has_a (sym n) (held_i, (held_j, ((hk.low, omega arith), tt))) hk.is in
         subst (First t s held ms) w.0 (record { breaks = w.1; first = set_order (Some hk.place) (third_order n hk) })
 
     set_first : First t s held ms b

@@ -4,6 +4,7 @@ use Rattle.positions.specs.declared.record.Record.{Record}
 use Rattle.books.specs.Tables.{Tables, Lawful}
 use Rattle.pairing.specs.Pairing.{Position, at, mark, Set, Allowed, requirement, worth}
 use Rattle.breaches.specs.declared.Breach.{Breach}
+use Rattle.breaches.specs.declared.Legs.{Legs}
 use Rattle.breaches.specs.declared.Breach.TheVariants as breach
 use Rattle.breaches.specs.Search.{set_at, first_breach}
 
@@ -20,24 +21,27 @@ pub record SetBreach (t : Tables) (s : ℕ) (held : List Record) (ms : List ℤ)
 -- the one or the other
 abbrev pub Breaks : Tables → ℕ → List Record → List ℤ → Breach → Type 0
 Breaks t s held ms (breach.Alone p) = AloneBreach t s held ms p
-Breaks t s held ms (breach.Set a i j k) = SetBreach t s held ms (set_at a i j k)
+Breaks t s held ms (breach.Set a l) = SetBreach t s held ms (set_at a l)
 
 -- no third leg comes before any
 abbrev pub LegNotAfter : Option ℕ → Option ℕ → Type 0
-LegNotAfter None n = Unit {0}
+LegNotAfter None m = Unit {0}
 LegNotAfter (Some k) None = ⊥
-LegNotAfter (Some k) (Some n) = k ≤ n
+LegNotAfter (Some k) (Some m) = k ≤ m
 
--- positions alone in order, before sets in order of article, then of legs 1, 2 and 3
+-- in order of legs 1, 2 and 3
+abbrev pub LegsNotAfter : Legs → Legs → Type 0
+LegsNotAfter l m =
+    (l.first < m.first)
+    ⊎ ((l.first ≡ m.first) × ((l.second < m.second)
+    ⊎ ((l.second ≡ m.second) × LegNotAfter l.third m.third)))
+
+-- positions alone in order, before sets in order of article, then of legs
 abbrev pub NotAfter : Breach → Breach → Type 0
 NotAfter (breach.Alone p) (breach.Alone q) = p ≤ q
-NotAfter (breach.Alone p) (breach.Set b l m n) = Unit {0}
-NotAfter (breach.Set a i j k) (breach.Alone q) = ⊥
-NotAfter (breach.Set a i j k) (breach.Set b l m n) =
-    (a < b)
-    ⊎ ((a ≡ b) × ((i < l)
-    ⊎ ((i ≡ l) × ((j < m)
-    ⊎ ((j ≡ m) × LegNotAfter k n)))))
+NotAfter (breach.Alone p) (breach.Set b m) = Unit {0}
+NotAfter (breach.Set a l) (breach.Alone q) = ⊥
+NotAfter (breach.Set a l) (breach.Set b m) = (a < b) ⊎ ((a ≡ b) × LegsNotAfter l m)
 
 -- a breach, and none comes before it
 pub record First (t : Tables) (s : ℕ) (held : List Record) (ms : List ℤ) (b : Breach) : Type 0 where

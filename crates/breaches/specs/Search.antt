@@ -1,12 +1,13 @@
 -- The first breach of fairness: positions alone in order, then articles, then legs 1, 2 and 3 ascending.
-use Rattle.std.specs.Prelude.{◌≡◌, ℕ, zero, suc, ◌+◌, Bool, false, cond, ◌&&◌, List, [], ◌∷◌, length, ℤ, pos, Some, None, Ok, Err, Option, Result, ◌==◌, int_lt}
+use Rattle.std.specs.Prelude.{◌≡◌, ℕ, zero, suc, ◌+◌, Bool, false, cond, ◌&&◌, List, ◌∷◌, length, ℤ, pos, Some, None, Ok, Err, Option, Result, ◌==◌, int_lt}
 use Rattle.std.specs.Bool.{then_some}
-use Rattle.std.specs.Option.{option_or}
+use Rattle.std.specs.Option.{option_or, option_to_list}
 use Rattle.positions.specs.declared.record.Record.{Record}
 use Rattle.books.specs.declared.BookFault.{BookFault}
 use Rattle.books.specs.Tables.{Tables}
 use Rattle.pairing.specs.Pairing.{at, mark, Set, distinct, answer, worth, Within, limit, Position, Fair}
 use Rattle.breaches.specs.declared.Breach.{Breach}
+use Rattle.breaches.specs.declared.Legs.{Legs}
 use Rattle.breaches.specs.declared.Breach.TheVariants as breach
 
 -- the first answer of f at i and the k - 1 numbers after it
@@ -27,34 +28,33 @@ unfair t s held ms x = above (answer t s held x) (worth s held ms x.legs)
 abbrev pub breaks : Tables → ℕ → List Record → List ℤ → Set → Bool
 breaks t s held ms x = distinct x.legs && unfair t s held ms x
 
+-- the first leg, the second, and the third if there is one
+abbrev pub legs_of : ℕ → ℕ → Option ℕ → Legs
+legs_of i j k = record { first = i; second = j; third = k }
+
+-- the positions that are legs, in order
+abbrev pub legs_in : Legs → List ℕ
+legs_in l = l.first ∷ l.second ∷ option_to_list l.third
+
 -- an article and its legs
-abbrev pub set_with : ℕ → List ℕ → Set
-set_with a ls = record { article = a; legs = ls }
-
--- two legs, or three
-abbrev pub legs_at : ℕ → ℕ → Option ℕ → List ℕ
-legs_at i j None = i ∷ j ∷ []
-legs_at i j (Some k) = i ∷ j ∷ k ∷ []
-
--- an article and its two or three legs
-abbrev pub set_at : ℕ → ℕ → ℕ → Option ℕ → Set
-set_at a i j k = set_with a (legs_at i j k)
+abbrev pub set_at : ℕ → Legs → Set
+set_at a l = record { article = a; legs = legs_in l }
 
 -- a mark above its position's requirement alone
 abbrev pub alone_breach : Tables → ℕ → List Record → List ℤ → ℕ → Option Breach
 alone_breach t s held ms p = then_some (int_lt (pos (t.alone s (at held p))) (mark ms p)) (breach.Alone p)
 
--- of an article and two or three positions, if that set is a breach
-abbrev pub set_breach : Tables → ℕ → List Record → List ℤ → ℕ → ℕ → ℕ → Option ℕ → Option Breach
-set_breach t s held ms a i j k = then_some (breaks t s held ms (set_at a i j k)) (breach.Set a i j k)
+-- of an article and its legs, if that set is a breach
+abbrev pub set_breach : Tables → ℕ → List Record → List ℤ → ℕ → Legs → Option Breach
+set_breach t s held ms a l = then_some (breaks t s held ms (set_at a l)) (breach.Set a l)
 
 -- the first third leg that makes a breach
 abbrev pub third_of_three : Tables → ℕ → List Record → List ℤ → ℕ → ℕ → ℕ → Option Breach
-third_of_three t s held ms a i j = first_of (λ k. set_breach t s held ms a i j (Some k)) 1 (length held)
+third_of_three t s held ms a i j = first_of (λ k. set_breach t s held ms a (legs_of i j (Some k))) 1 (length held)
 
 -- with the first two legs given: the set of two, or the first third leg
 abbrev pub third_leg : Tables → ℕ → List Record → List ℤ → ℕ → ℕ → ℕ → Option Breach
-third_leg t s held ms a i j = cond (t.legs a == 2) (set_breach t s held ms a i j None) (third_of_three t s held ms a i j)
+third_leg t s held ms a i j = cond (t.legs a == 2) (set_breach t s held ms a (legs_of i j None)) (third_of_three t s held ms a i j)
 
 -- the first second leg that makes a breach
 abbrev pub second_leg : Tables → ℕ → List Record → List ℤ → ℕ → ℕ → Option Breach

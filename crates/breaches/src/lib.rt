@@ -1,16 +1,17 @@
 // A breach of fairness.
 #![tactic(auto)]
 
-// A position alone, or an article and the positions that are its two or three legs.
+// The positions that are the legs of a set: two, or three.
+#[derive(Clone, Copy)]
+pub struct Legs {
+    pub first: u8,
+    pub second: u8,
+    pub third: Option<u8>,
+}
+
+// A position alone, or an article with its legs.
 #[derive(Clone, Copy)]
 pub enum Breach {
-    Alone {
-        position: u8,
-    },
-    Set {
-        article: u8,
-        first: u8,
-        second: u8,
-        third: Option<u8>,
-    },
+    Alone { position: u8 },
+    Set { article: u8, legs: Legs },
 }

@@ -1,5 +1,6 @@
 -- The refusals of a docket: the number of each, and what is returned with it.
-use Rattle.std.specs.Prelude.{ℕ, Some, None}
+use Rattle.std.specs.Prelude.{ℕ}
+use Rattle.std.specs.Option.{unwrap_or}
 use Rattle.positions.specs.declared.RecordFault.{RecordFault}
 use Rattle.positions.specs.declared.RecordFault.TheVariants.{OutOfRange}
 use Rattle.positions.specs.Refusals.{field_number}
@@ -39,8 +40,7 @@ four_of a b c d = record { one = a; two = b; three = c; four = d }
 -- of a breach: the article and its positions; for a position alone 0 and the position
 abbrev pub breach_details : Breach → Details
 breach_details (breach.Alone p) = four_of 0 p 0 0
-breach_details (breach.Set a i j None) = four_of a i j 0
-breach_details (breach.Set a i j (Some k)) = four_of a i j k
+breach_details (breach.Set a l) = four_of a l.first l.second (unwrap_or l.third 0)
 
 -- 2 the field; 3 the position; 7, 8 and 10 the leg; 9 the book's cause and leg; 15 the marks given and the positions held;
 -- 16 the position; 17 the breach

@@ -144,18 +144,11 @@ impl Refusal {
                 two: position as usize,
                 ..Details::default()
             },
-            Refusal::Unfair(
-                Breach::Set {
-                    article,
-                    first,
-                    second,
-                    third,
-                },
-            ) => Details {
+            Refusal::Unfair(Breach::Set { article, legs }) => Details {
                 one: article as usize,
-                two: first as usize,
-                three: second as usize,
-                four: third.map_or(0, |third| third as usize),
+                two: legs.first as usize,
+                three: legs.second as usize,
+                four: legs.third.map_or(0, |third| third as usize),
             },
             Refusal::SizeOutOfRange
             | Refusal::PositionsFull

@@ -4,12 +4,12 @@
 ghost use Rattle.std.specs.Prelude.{◌≡◌, ℕ, ◌^◌, ◌≤◌, length, pos, ◌*ℤ◌, neg_ℤ, ◌≤ℤ◌, Some, int_lt};
 ghost use Rattle.books.specs.Tables.{Has};
 ghost use Rattle.pairing.specs.Pairing.{Position, Positions, at, mark, lot, worth, answer, distinct};
-ghost use Rattle.breaches.specs.Search.{legs_at, set_at, alone_breach, set_breach, third_leg, second_leg, first_leg, first_alone, first_article, first_breach, Limited, NoneExactlyIfFair};
+ghost use Rattle.breaches.specs.Search.{legs_in, set_at, alone_breach, set_breach, third_leg, second_leg, first_leg, first_alone, first_article, first_breach, Limited, NoneExactlyIfFair};
 ghost use Rattle.breaches.specs.First.{First};
 
 use amounts::ContractSize;
 use books::{Book, BookFault};
-use breaches::Breach;
+use breaches::{Breach, Legs};
 use pairing::{mark_times, set_takes};
 use positions::Record;
 
@@ -32,13 +32,13 @@ fn passes(marks: i128, requirement: u64) -> bool
 }
 
 // Whether no position is a leg twice.
-fn distinct(first: u8, second: u8, third: Option<u8>) -> bool
-    ensures { result ≡ distinct (legs_at first second third) }
+fn distinct(legs: Legs) -> bool
+    ensures { result ≡ distinct (legs_in legs) }
 {
-    match third {
-        None => first != second,
-        Some(third) => first != second && first != third && second != third,
-    }
+    legs.first != legs.second
+        && legs
+            .third
+            .is_none_or(|third| third != legs.first && third != legs.second)
 }
 
 impl<B: Book> Search<'_, B> {
@@ -77,33 +77,27 @@ impl<B: Book> Search<'_, B> {
     }
 
     // The marks of what a set takes.
-    fn worth(&self, first: u8, second: u8, third: Option<u8>) -> i128
-        requires { Positions self.now.held.now (legs_at first second third) }
-        ensures { result ≡ worth self.now.size.units self.now.held.now self.now.marks.now (legs_at first second third) }
+    fn worth(&self, legs: Legs) -> i128
+        requires { Positions self.now.held.now (legs_in legs) }
+        ensures { result ≡ worth self.now.size.units self.now.held.now self.now.marks.now (legs_in legs) }
     {
-        let pair = self.leg_worth(first) + self.leg_worth(second);
-        match third {
+        let pair = self.leg_worth(legs.first) + self.leg_worth(legs.second);
+        match legs.third {
             None => pair,
             Some(third) => pair + self.leg_worth(third),
         }
     }
 
     // What the book requires of a set.
-    fn answer(
-        &self,
-        article: u8,
-        first: u8,
-        second: u8,
-        third: Option<u8>,
-    ) -> Result<u64, BookFault>
+    fn answer(&self, article: u8, legs: Legs) -> Result<u64, BookFault>
         requires has { Has (B.Book.tables self.now.book.now) article }
-        requires whole { length (legs_at first second third) ≡ (B.Book.tables self.now.book.now).legs article }
-        requires positions { Positions self.now.held.now (legs_at first second third) }
-        ensures { result ≡ answer (B.Book.tables self.now.book.now) self.now.size.units self.now.held.now (set_at article first second third) }
+        requires whole { length (legs_in legs) ≡ (B.Book.tables self.now.book.now).legs article }
+        requires positions { Positions self.now.held.now (legs_in legs) }
+        ensures { result ≡ answer (B.Book.tables self.now.book.now) self.now.size.units self.now.held.now (set_at article legs) }
     {
-        let first = self.record(first);
-        let second = self.record(second);
-        match third {
+        let first = self.record(legs.first);
+        let second = self.record(legs.second);
+        match legs.third {
             None => self.book.paired(self.size, article, &[first, second]),
             Some(third) => self
                 .book
@@ -111,25 +105,20 @@ impl<B: Book> Search<'_, B> {
         }
     }
 
-    // The breach of one set, if it is one: its marks are above what the book requires, if it requires anything.
-    fn set_breach(&self, article: u8, first: u8, second: u8, third: Option<u8>) -> Option<Breach>
+    // The breach of one set, if it is one.
+    fn set_breach(&self, article: u8, legs: Legs) -> Option<Breach>
         requires has { Has (B.Book.tables self.now.book.now) article }
-        requires whole { length (legs_at first second third) ≡ (B.Book.tables self.now.book.now).legs article }
-        requires positions { Positions self.now.held.now (legs_at first second third) }
-        ensures { result ≡ set_breach (B.Book.tables self.now.book.now) self.now.size.units self.now.held.now self.now.marks.now article first second third }
+        requires whole { length (legs_in legs) ≡ (B.Book.tables self.now.book.now).legs article }
+        requires positions { Positions self.now.held.now (legs_in legs) }
+        ensures { result ≡ set_breach (B.Book.tables self.now.book.now) self.now.size.units self.now.held.now self.now.marks.now article legs }
     {
-        if !distinct(first, second, third) {
+        if !distinct(legs) {
             return None;
         }
-        let worth = self.worth(first, second, third);
-        self.answer(article, first, second, third)
+        let worth = self.worth(legs);
+        self.answer(article, legs)
             .is_ok_and(|requirement| passes(worth, requirement))
-            .then_some(Breach::Set {
-                article,
-                first,
-                second,
-                third,
-            })
+            .then_some(Breach::Set { article, legs })
     }
 
     // The first breach with the legs before given.
@@ -139,14 +128,25 @@ impl<B: Book> Search<'_, B> {
         ensures { result ≡ third_leg (B.Book.tables self.now.book.now) self.now.size.units self.now.held.now self.now.marks.now article first second }
     {
         if self.book.legs(article) == 2 {
-            return self.set_breach(article, first, second, None);
+            return self.set_breach(
+                article,
+                Legs {
+                    first,
+                    second,
+                    third: None,
+                },
+            );
         }
-        (1..=self.positions()).find_map(|third| self.set_breach(
-            article,
-            first,
-            second,
-            Some(third),
-        ))
+        (1..=self.positions()).find_map(|third| {
+            self.set_breach(
+                article,
+                Legs {
+                    first,
+                    second,
+                    third: Some(third),
+                },
+            )
+        })
     }
 
     fn second_leg(&self, article: u8, first: u8) -> Option<Breach>
@@ -188,6 +188,7 @@ impl<B: Book> Search<'_, B> {
     fn first_breach(&self) -> Option<Breach>
         ensures { result ≡ first_breach (B.Book.tables self.now.book.now) self.now.size.units self.now.held.now self.now.marks.now }
     {
+        // No `or_else`: of a closure in generic code that takes no argument, the proof knows nothing.
         match self.first_alone() {
             None => self.first_article(),
             found => found,
