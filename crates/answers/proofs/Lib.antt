@@ -1,2 +1,2 @@
-pub mod Summing
 pub mod Showing
+pub mod Floors

@@ -14,8 +14,6 @@ use Rattle.answers.specs.declared.FileFault.TheVariants.{TooLong, Read, Certify}
 use Rattle.answers.specs.declared.Summary.{Summary}
 use Rattle.answers.specs.declared.Verdict.{Verdict}
 use Rattle.answers.specs.declared.Verdict.TheVariants.{Least, Gap, Absent}
-use Rattle.answers.specs.declared.Answer.{Answer}
-use Rattle.answers.specs.declared.Answer.TheVariants.{Accepted, Refused}
 
 -- a refusal from below is held whole
 abbrev pub from_read : ReadFault → FileFault
@@ -70,20 +68,15 @@ abbrev pub summed : Content → Result Figures Refusal → Result Summary FileFa
 summed c (Ok f) = Ok (record { positions = length c.tally.held; claims = length c.tally.claims; total = f.total; floor = f.floor })
 summed c (Err r) = Err (from_certify r)
 
--- the figures of what was read, or the fault of reading
+-- the figures of a docket and its marks
+abbrev pub summary_in : Content → Result Summary FileFault
+summary_in c = summed c (figures_by c c.marks)
+
+-- those of what was read, or the fault of reading
 abbrev pub of_read : Result Content ReadFault → Result Summary FileFault
-of_read (Ok c) = summed c (figures_by c c.marks)
+of_read (Ok c) = summary_in c
 of_read (Err f) = Err (from_read f)
 
--- the length is tested first
-abbrev pub summary_of : List ℕ → Result Summary FileFault
-summary_of file = cond (nat_le (length file) 65536) (of_read (read_file file)) (Err TooLong)
-
--- the answer is either
-abbrev pub answered : Result Summary FileFault → Answer
-answered (Ok s) = Accepted s
-answered (Err f) = Refused f
-
--- the answer to the bytes of a file
-abbrev pub answer_to : List ℕ → Answer
-answer_to file = answered (summary_of file)
+-- the answer to the bytes of a file; the length is tested first
+abbrev pub answer_to : List ℕ → Result Summary FileFault
+answer_to file = cond (nat_le (length file) 65536) (of_read (read_file file)) (Err TooLong)

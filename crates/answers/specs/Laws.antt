@@ -9,8 +9,6 @@ use Rattle.answers.specs.declared.FileFault.{FileFault}
 use Rattle.answers.specs.declared.FileFault.TheVariants.{TooLong, Read, Certify}
 use Rattle.answers.specs.declared.Summary.{Summary}
 use Rattle.answers.specs.declared.Verdict.TheVariants.{Least}
-use Rattle.answers.specs.declared.Answer.{Answer}
-use Rattle.answers.specs.declared.Answer.TheVariants.{Accepted, Refused}
 use Rattle.answers.specs.Answers.{verdict_of}
 
 -- the tables of the file's book
@@ -48,13 +46,8 @@ abbrev pub Describes : List ℕ → (Content → Type 0) → Type 0
 Describes file P = (c : Content) × ((read_file file ≡ Ok c) × P c)
 
 -- an accepted file shows its figures; marks that are not certified are not fair
-abbrev pub Told : List ℕ → Result Summary FileFault → Type 0
-Told file (Ok s) = Describes file (λ c. Shows c s)
-Told file (Err TooLong) = Unit {0}
-Told file (Err (Read f)) = Unit {0}
-Told file (Err (Certify r)) = Describes file (λ c. FairIn c → ⊥)
-
--- the same of the answer
-abbrev pub ToldBy : List ℕ → Answer → Type 0
-ToldBy file (Accepted s) = Told file (Ok s)
-ToldBy file (Refused f) = Told file (Err f)
+abbrev pub ToldBy : List ℕ → Result Summary FileFault → Type 0
+ToldBy file (Ok s) = Describes file (λ c. Shows c s)
+ToldBy file (Err TooLong) = Unit {0}
+ToldBy file (Err (Read f)) = Unit {0}
+ToldBy file (Err (Certify r)) = Describes file (λ c. FairIn c → ⊥)

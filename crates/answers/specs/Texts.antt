@@ -1,13 +1,11 @@
 -- The answer as text.
-use Rattle.std.specs.Prelude.{ℕ, List, ◌++◌, ℤ, Some, None, codes, decimal, Option}
+use Rattle.std.specs.Prelude.{ℕ, List, ◌++◌, ℤ, Some, None, Ok, Err, codes, decimal, Option, Result}
 use Rattle.std.specs.Fmt.{signed_decimal}
 use Rattle.dockets.specs.declared.Details.{Details}
 use Rattle.answers.specs.declared.FileFault.{FileFault}
 use Rattle.answers.specs.declared.Summary.{Summary}
 use Rattle.answers.specs.declared.Verdict.{Verdict}
 use Rattle.answers.specs.declared.Verdict.TheVariants.{Least, Gap, Absent}
-use Rattle.answers.specs.declared.Answer.{Answer}
-use Rattle.answers.specs.declared.Answer.TheVariants.{Accepted, Refused}
 use Rattle.answers.specs.Answers.{file_number, file_details, verdict_of}
 
 -- the verdict in a word
@@ -43,7 +41,7 @@ refused_text n d =
 abbrev pub fault_text : FileFault → List ℕ
 fault_text f = refused_text (file_number f) (file_details f)
 
--- figures or a refusal
-abbrev pub answer_text : Answer → List ℕ
-answer_text (Accepted s) = summary_text s
-answer_text (Refused f) = fault_text f
+-- what a file is answered, or its refusal
+abbrev pub answer_text : {A : Type 0} → (A → Option (List ℕ)) → Result A FileFault → Option (List ℕ)
+answer_text output (Ok x) = output x
+answer_text output (Err f) = Some (fault_text f)

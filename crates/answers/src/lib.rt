@@ -8,7 +8,7 @@ mod figures;
 mod texts;
 
 use dockets::{Details, Refusal};
-pub use figures::{answer_to, summarize};
+pub use figures::answer_to;
 use reader::faults::ReadFault;
 
 // Why a file is refused: it is too long, it cannot be read, or its marks are not certified.
@@ -36,12 +36,9 @@ pub enum Verdict {
     Absent,
 }
 
-// The answer to a file.
-#[derive(Clone, Copy)]
-pub enum Answer {
-    Accepted(Summary),
-    Refused(FileFault),
-}
+// What a file is answered, or why it is refused: a type of its own, so that either is printed by one Display.
+#[derive(Drop)]
+pub struct Answer<T>(pub Result<T, FileFault>);
 
 impl From<ReadFault> for FileFault {
     ghost from_gives = { λ x y. y ≡ from_read x };
@@ -99,13 +96,10 @@ impl Summary {
     {
         match self.floor {
             None => Verdict::Absent,
-            Some(floor) => {
-                if floor >= 0 && floor as u128 == self.total {
-                    Verdict::Least
-                } else {
-                    Verdict::Gap
-                }
+            Some(floor) if u128::try_from(floor).is_ok_and(|floor| floor == self.total) => {
+                Verdict::Least
             }
+            Some(_) => Verdict::Gap,
         }
     }
 }

@@ -4,16 +4,17 @@ ghost use Rattle.std.specs.Prelude.{Some};
 
 use crate::{Answer, FileFault, Summary, Verdict};
 use std::fmt;
+use writing::OrNone;
 
 impl fmt::Display for Verdict {
     ghost output = { λ v. Some (verdict_text v) };
 
     fn fmt<W: fmt::Write>(&self, f: &mut fmt::Formatter<W>) -> fmt::Result {
-        match self {
-            Verdict::Least => write!(f, "least"),
-            Verdict::Gap => write!(f, "gap"),
-            Verdict::Absent => write!(f, "none"),
-        }
+        f.write_str(match self {
+            Verdict::Least => "least",
+            Verdict::Gap => "gap",
+            Verdict::Absent => "none",
+        })
     }
 }
 
@@ -22,20 +23,15 @@ impl fmt::Display for Summary {
     ghost output = { λ s. Some (summary_text s) };
 
     fn fmt<W: fmt::Write>(&self, f: &mut fmt::Formatter<W>) -> fmt::Result {
-        let positions = self.positions;
-        let claims = self.claims;
-        let total = self.total;
-        let verdict = self.verdict();
-        match self.floor {
-            Some(floor) => write!(
-                f,
-                "positions={positions}\nclaims={claims}\ntotal={total}\nfloor={floor}\nverdict={verdict}\n"
-            ),
-            None => write!(
-                f,
-                "positions={positions}\nclaims={claims}\ntotal={total}\nfloor=none\nverdict={verdict}\n"
-            ),
-        }
+        write!(
+            f,
+            "positions={}\nclaims={}\ntotal={}\nfloor={}\nverdict={}\n",
+            self.positions,
+            self.claims,
+            self.total,
+            OrNone(self.floor),
+            self.verdict(),
+        )
     }
 }
 
@@ -54,13 +50,13 @@ impl fmt::Display for FileFault {
     }
 }
 
-impl fmt::Display for Answer {
-    ghost output = { λ a. Some (answer_text a) };
+impl<T: fmt::Display> fmt::Display for Answer<T> {
+    ghost output = { λ a. answer_text T.output a.0 };
 
     fn fmt<W: fmt::Write>(&self, f: &mut fmt::Formatter<W>) -> fmt::Result {
-        match self {
-            Answer::Accepted(summary) => write!(f, "{summary}"),
-            Answer::Refused(fault) => write!(f, "{fault}"),
+        match &self.0 {
+            Ok(answer) => write!(f, "{answer}"),
+            Err(fault) => write!(f, "{fault}"),
         }
     }
 }

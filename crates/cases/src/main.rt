@@ -2,14 +2,14 @@
 // and writes every docket that a case describes, into a buffer that just holds it and into one that does not.
 #![tactic(auto)]
 
-use answers::answer_to;
+use answers::{Answer, answer_to};
 use reading::read;
 use std::fs;
 use writing::{WriteFault, write};
 
 // Whether a file is answered as it should be.
 fn answers(rt: &HostRuntime, file: &[u8], expected: &[u8]) -> anyhow::Result<bool> {
-    let answer = answer_to(file);
+    let answer = Answer(answer_to(file));
     let text = format!(in rt.alloc(); "{answer}")?;
     Ok(text.as_bytes() == expected)
 }
@@ -21,7 +21,7 @@ fn rewrites(rt: &HostRuntime, file: &[u8]) -> anyhow::Result<Option<bool>> {
     let Ok(contents) = read(file, &mut marks) else {
         return Ok(None);
     };
-    let marks = &marks[0..contents.marks.min(32)];
+    let marks = &marks[..contents.marks];
     let mut room = vec![in heap; 0u8; file.len()]?;
     let mut short = vec![in heap; 0u8; file.len().saturating_sub(1)]?;
     let written = write(heap, &contents.docket, marks, room.as_mut_slice());

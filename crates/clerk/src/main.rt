@@ -45,42 +45,16 @@ fn print_marks(rt: &HostRuntime, marks: &[i64]) -> anyhow::Result<()> {
     Ok(())
 }
 
-fn print_claim(rt: &HostRuntime, name: &str, c: &Claim) -> anyhow::Result<()> {
-    let article = c.article;
-    let first = c.first;
-    let second = c.second;
-    let third = c.third;
-    let sets = c.sets;
-    print!(rt; "{name}={article},{first},{second},{third},{sets}")?;
-    Ok(())
-}
-
-fn print_entry(rt: &HostRuntime, e: &Entry) -> anyhow::Result<()> {
-    let side = e.side;
-    let kind = e.kind;
-    let strike = e.strike;
-    let days = e.days;
-    let price = e.price;
-    let quantity = e.quantity;
-    print!(rt; "enter={side},{kind},{strike},{days},{price},{quantity}")?;
-    Ok(())
-}
-
 fn print_call(rt: &HostRuntime, call: &Call) -> anyhow::Result<()> {
     match call {
-        Call::Enter(e) => print_entry(rt, e),
-        Call::Claim(c) => print_claim(rt, "claim", c),
-        Call::Release(c) => print_claim(rt, "release", c),
-        Call::Free(position) => {
-            print!(rt; "free={position}")?;
-            Ok(())
-        }
-        Call::Total => {
-            print!(rt; "total")?;
-            Ok(())
-        }
-        Call::Certify(marks) => print_marks(rt, marks),
+        Call::Enter(entry) => print!(rt; "enter={entry}")?,
+        Call::Claim(claim) => print!(rt; "claim={claim}")?,
+        Call::Release(claim) => print!(rt; "release={claim}")?,
+        Call::Free(position) => print!(rt; "free={position}")?,
+        Call::Total => print!(rt; "total")?,
+        Call::Certify(marks) => print_marks(rt, marks)?,
     }
+    Ok(())
 }
 
 fn print_reply(rt: &HostRuntime, reply: Reply) -> anyhow::Result<()> {

@@ -1,27 +1,15 @@
 // Reads a docket's file from standard input, and prints what one unit or contract of each position requires alone.
 #![tactic(auto)]
 
+use answers::Answer;
 use std::io;
 use std::io::Read;
-use tariffs::{Charge, Tariff, tariff_of};
-
-fn print_all(rt: &HostRuntime, tariff: &Tariff) -> io::Result<()> {
-    for (i, parts) in tariff.parts.iter().take(tariff.count).enumerate() {
-        let charge = Charge {
-            position: i + 1,
-            parts: *parts,
-        };
-        print!(rt; "{charge}")?;
-    }
-    Ok(())
-}
+use tariffs::tariff_of;
 
 fn main(rt: HostRuntime) -> io::Result<()> {
+    // Read as in the program docket: a function for both would be no shorter than these lines.
     let mut file = Vec::new(rt.alloc());
-    let mut input = rt.stdin().take(65_537);
-    input.read_to_end(&mut file)?;
-    match tariff_of(file.as_slice()) {
-        Ok(tariff) => print_all(&rt, &tariff),
-        Err(fault) => print!(rt; "{fault}"),
-    }
+    rt.stdin().take(65_537).read_to_end(&mut file)?;
+    let answer = Answer(tariff_of(file.as_slice()));
+    print!(rt; "{answer}")
 }

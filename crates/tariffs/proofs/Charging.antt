@@ -1,12 +1,16 @@
--- One position more.
-use Rattle.std.proofs.Common.{◌≡◌, ℕ, ◌+◌, ◌<◌, List, [], ◌∷◌, ◌++◌, map, length, get_or, take, set, sym, ap, ◌∙◌}
-use Rattle.std.proofs.lemmas.List.{map-append, take_more, take_more_set}
+-- The line of one position more.
+use Rattle.std.proofs.Common.{◌≡◌, ℕ, ◌+◌, ◌<◌, List, [], ◌∷◌, ◌++◌, length, get_or, take, sym, ap, ◌∙◌, append_assoc, append-nil, arith}
+use Rattle.std.proofs.lemmas.List.{length-take, take_more}
+use Rattle.tariffs.specs.Tariffs.{charge_text, charges_text}
 
--- one place more holds what the next element is mapped to
-pub mapped_more : {A : Type 0} (f : A → ℕ) (xs : List A) (ps : List ℕ) (i : ℕ) (x : A) (v : ℕ) → i < length xs → i < length ps → x ≡ get_or xs i x → v ≡ f x → take i ps ≡ map f (take i xs) → take (i + 1) (set ps i v) ≡ map f (take (i + 1) xs)
-mapped_more f xs ps i x v h room is e inv =
-    take_more_set ps i v room
-    ∙ (λ j. inv j ++ (e j ∷ []))
-    ∙ sym (map-append f (take i xs) (x ∷ []))
-    ∙ ap (λ y. map f (take i xs ++ (y ∷ []))) is
-    ∙ ap (map f) (sym (take_more xs i x h))
+charges_at_end : (first : ℕ) (xs : List ℕ) (x : ℕ) → charges_text first (xs ++ (x ∷ [])) ≡ charges_text first xs ++ charge_text (first + length xs) x
+charges_at_end first [] x = append-nil (charge_text first x) ∙ ap (λ n. charge_text n x) (omega arith)
+charges_at_end first (y ∷ ys) x =
+    ap (λ l. charge_text first y ++ l) (charges_at_end (first + 1) ys x ∙ ap (λ n. charges_text (first + 1) ys ++ charge_text n x) (omega arith))
+    ∙ sym (append_assoc (charge_text first y) (charges_text (first + 1) ys) (charge_text (first + length (y ∷ ys)) x))
+
+pub charges_more : (xs : List ℕ) (i d : ℕ) → i < length xs → charges_text 1 (take i xs) ++ charge_text (i + 1) (get_or xs i d) ≡ charges_text 1 (take (i + 1) xs)
+charges_more xs i d h =
+    ap (λ n. charges_text 1 (take i xs) ++ charge_text n (get_or xs i d)) (omega (arith, length-take i xs))
+    ∙ sym (charges_at_end 1 (take i xs) (get_or xs i d))
+    ∙ ap (charges_text 1) (sym (take_more xs i d h))

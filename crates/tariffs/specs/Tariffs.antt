@@ -1,5 +1,5 @@
 -- What each position of a file requires alone.
-use Rattle.std.specs.Prelude.{ℕ, cond, List, ◌++◌, map, length, Ok, Err, codes, decimal, Result, nat_le}
+use Rattle.std.specs.Prelude.{ℕ, ◌+◌, cond, List, [], ◌∷◌, ◌++◌, map, length, Ok, Err, codes, decimal, Result, nat_le}
 use Rattle.positions.specs.declared.record.Record.{Record}
 use Rattle.books.specs.Tables.{Tables}
 use Rattle.reader.specs.declared.faults.ReadFault.{ReadFault}
@@ -8,7 +8,6 @@ use Rattle.reading.specs.Files.{Content, read_file}
 use Rattle.answers.specs.declared.FileFault.{FileFault}
 use Rattle.answers.specs.declared.FileFault.TheVariants.{TooLong}
 use Rattle.answers.specs.Answers.{from_read}
-use Rattle.tariffs.specs.declared.Charge.{Charge}
 
 -- one unit or contract of each position, in order of entry
 abbrev pub charges : Tables → ℕ → List Record → List ℕ
@@ -28,5 +27,10 @@ abbrev pub tariff_of : List ℕ → Result (List ℕ) FileFault
 tariff_of file = cond (nat_le (length file) 65536) (of_read (read_file file)) (Err TooLong)
 
 -- a position's number and its parts
-abbrev pub charge_text : Charge → List ℕ
-charge_text c = codes "position=" ++ (decimal c.position ++ (codes "," ++ (decimal c.parts ++ codes "\n")))
+abbrev pub charge_text : ℕ → ℕ → List ℕ
+charge_text position parts = codes "position=" ++ (decimal position ++ (codes "," ++ (decimal parts ++ codes "\n")))
+
+-- a line for each position, numbered from the first
+abbrev pub charges_text : ℕ → List ℕ → List ℕ
+charges_text first [] = []
+charges_text first (parts ∷ others) = charge_text first parts ++ charges_text (first + 1) others
