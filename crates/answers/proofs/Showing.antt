@@ -18,7 +18,7 @@ use Rattle.reader.specs.Rates.{rates_on, tables_by}
 use Rattle.reading.specs.Files.{Content, read_file}
 use Rattle.files.proofs.Whole.{sheet_lawful, sheet_tables_lem}
 use Rattle.answers.specs.declared.Summary.{Summary}
-use Rattle.answers.specs.declared.Verdict.TheVariants.{Least, Gap, Absent}
+use Rattle.answers.specs.declared.Verdict.TheVariants.{Least, Gap}
 use Rattle.answers.specs.Answers.{Figures, figures, figures_by, of_certificate, verdict_of, meets, summed, summary_in}
 use Rattle.answers.specs.Laws.{tables_in, costing, Shows, ToldBy}
 
