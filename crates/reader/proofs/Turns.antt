@@ -1,12 +1,7 @@
 -- The next line, by what is left of the file.
-use Rattle.std.proofs.Common.{◌≡◌, ℕ, ◌+◌, ◌<◌, List, [], ◌∷◌, length, Some, None, Ok, Err, sym, refl, ap, arith}
-use Rattle.text.specs.Fields.{split}
+use Rattle.std.proofs.Common.{◌≡◌, ℕ, ◌+◌, ◌<◌, List, [], ◌∷◌, length, Some, Ok, Err, sym, ap, arith}
 use Rattle.reader.specs.Faults.{on_line, no_line}
 use Rattle.reader.specs.Lines.{next_line}
-
-pub at_end_lem : (n : ℕ) (bs : List ℕ) → length bs ≡ 0 → Ok (record { value = None; place = n; left = split 10 bs }) ≡ next_line n (split 10 bs)
-at_end_lem n [] h = refl
-at_end_lem n (c ∷ cs) h = absurd (omega arith)
 
 pub unended : (n : ℕ) (fs : List (List ℕ)) (f : List ℕ) → fs ≡ f ∷ [] → 0 < length f → Err (on_line n no_line) ≡ next_line n fs
 unended n fs [] e h = absurd (omega arith)

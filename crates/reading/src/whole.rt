@@ -31,15 +31,14 @@ fn take_lines(reader: &mut Reader, gathered: &mut Gathered) -> Result<(), ReadFa
     ensures size { gathered.new.docket.state.size ≡ gathered.old.docket.state.size }
     ensures body { leaving result (body_in gathered.new) ≡ body_from (sheet_tables gathered.old.docket.book) gathered.old.docket.state.size.units reader.old.line (body_in gathered.old) (pieces reader.old) }
 {
-    loop {
-        let line = reader.line();
-        let Some(bytes) = reader.next_line()? else {
-            return Ok(());
-        };
+    let mut line = reader.line();
+    while let Some(bytes) = reader.next_line()? {
         gathered
             .take_line(bytes)
             .map_err(|fault| ReadFault::on(line, fault))?;
+        line = reader.line();
     }
+    Ok(())
 }
 
 // All that a file describes, with its marks.

@@ -19,16 +19,6 @@ abbrev pub width : Option (Bor (List ℕ)) → ℕ
 width None = 0
 width (Some r) = length r.now + 1
 
--- the first field
-abbrev pub first_of : List (List ℕ) → Option (List ℕ)
-first_of [] = None
-first_of (f ∷ fs) = Some f
-
--- the fields after the first
-abbrev pub rest_of : List (List ℕ) → List (List ℕ)
-rest_of [] = []
-rest_of (f ∷ fs) = fs
-
 -- where the field after the first begins
 abbrev pub place_after : ℕ → List (List ℕ) → ℕ
 place_after p [] = p

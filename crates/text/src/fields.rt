@@ -1,7 +1,7 @@
 // The fields of a line, one after another.
-ghost use Rattle.std.specs.Prelude.{◌≡◌, ◌+◌, ◌^◌, ◌≤◌};
+ghost use Rattle.std.specs.Prelude.{◌≡◌, ◌+◌, ◌^◌, ◌≤◌, drop, slice_get};
 ghost use Rattle.std.specs.Option.{option_map};
-ghost use Rattle.text.specs.Fields.{split, remaining, width, first_of, rest_of, place_after};
+ghost use Rattle.text.specs.Fields.{split, remaining, width, place_after};
 
 // What is left of a line, None after its last field, and the place where the next field begins, counted from 1.
 #[derive(Clone, Copy)]
@@ -34,8 +34,8 @@ impl<'a> Fields<'a> {
 
     // The next field, or None where no field is left.
     pub fn take_field(&mut self) -> Option<&'a [u8]>
-        ensures value { option_map (λ x. x.now) result ≡ first_of (remaining self.old.rest) }
-        ensures rest { remaining self.new.rest ≡ rest_of (remaining self.old.rest) }
+        ensures value { option_map (λ x. x.now) result ≡ slice_get (remaining self.old.rest) 0 }
+        ensures rest { remaining self.new.rest ≡ drop 1 (remaining self.old.rest) }
         ensures place { self.new.place ≡ place_after self.old.place (remaining self.old.rest) }
     {
         let rest = self.rest?;

@@ -8,7 +8,8 @@ use Rattle.reading.proofs.whole.take_lines.Given as goal
 -- what the lines that are left lead to is what all of them lead to
 abbrev pub invariant-loop-bytes : goal.invariant-loop-bytes
 invariant-loop-bytes l =
-    (l.gathered.docket.book ≡ l.initial.gathered.docket.book)
+    (l.line ≡ l.reader.line)
+    × (l.gathered.docket.book ≡ l.initial.gathered.docket.book)
     × (l.gathered.docket.state.size ≡ l.initial.gathered.docket.state.size)
     × (body_from (sheet_tables l.initial.gathered.docket.book) l.initial.gathered.docket.state.size.units l.reader.line (body_in l.gathered) (pieces l.reader)
     ≡ body_from (sheet_tables l.initial.gathered.docket.book) l.initial.gathered.docket.state.size.units l.initial.reader.line (body_in l.initial.gathered) (pieces l.initial.reader))

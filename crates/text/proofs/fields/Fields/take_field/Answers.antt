@@ -1,9 +1,9 @@
-use Rattle.std.proofs.Common.{◌≡◌, ◌≤◌, ◌∷◌, length, take, eqb, Some, sym, ap, ◌∙◌, arith, rules, tests}
+use Rattle.std.proofs.Common.{◌≡◌, ◌≤◌, ◌∷◌, length, take, drop, slice_get, eqb, Some, sym, ap, ◌∙◌, arith, rules, tests}
 use Rattle.std.specs.List.{position}
 use Rattle.std.proofs.lemmas.List.{length-take-le}
 use Rattle.std.proofs.lemmas.Iterator.{YieldsList-from_slice}
 use Rattle.std.proofs.lemmas.Iterator.Search.{position_from_yields_List}
-use Rattle.text.specs.Fields.{remaining, first_of, rest_of, place_after}
+use Rattle.text.specs.Fields.{remaining, place_after}
 use Rattle.text.proofs.Parting.{taken}
 use Rattle.text.proofs.fields.Fields.take_field.Goals as goal
 
@@ -18,7 +18,7 @@ returns c =
     let h : remaining s.rest ≡ take n bs ∷ remaining c.get-self.result = ap remaining e ∙ taken bs o c.get-self.result n p c.unwrap_or-n.ensures c.get-self.ensures.lookup in
     let le : n ≤ length bs = search rules in
     record {
-      value = sym (ap first_of h);
-      rest = sym (ap rest_of h);
+      value = sym (ap (λ fs. slice_get fs 0) h);
+      rest = sym (ap (drop 1) h);
       place = omega (arith, ap (place_after s.place) h, length-take-le n bs le);
     }
