@@ -28,11 +28,13 @@ impl From<ArticleFault> for BookFault {
 
 // A market whose book is a list of articles, numbered from 1.
 pub trait Listed: Market {
+    // How many articles the book has.
     ghost count: { ℕ };
 
+    // The article of each number.
     ghost numbered: { ℕ → Article };
 
-    // The articles in the order of their numbers.
+    // The articles in the order of their numbers: at index 0 the first.
     fn listed(&self) -> &'static [Article]
         ensures count { length result.now ≡ count }
         ensures order { (k : ℕ) → k < count → slice_index_or result.now k (numbered (k + 1)) ≡ numbered (k + 1) };
