@@ -31,14 +31,14 @@ led_holds t size y law led = subst (Holds t size) (sym led.1) (runs_hold t size 
 -- a verdict of least is of a floor that meets the total
 meets_is : (total : ℕ) (z : ℤ) → meets total z ≡ true → z ≡ pos total
 meets_is total (pos n) h = ap pos (eqb-true n total h)
-meets_is total (negsuc n) h = let x : ◌≡◌ {A = ℕ} 0 1 = cc in absurd (omega arith)
+meets_is total (negsuc n) h = absurd cc
 
 least_is : (total : ℕ) (z : ℤ) → verdict_of total (Some z) ≡ Least → z ≡ pos total
 least_is total z h = at (meets total z) refl h
   where
     at : (b : Bool) → meets total z ≡ b → cond b Least Gap ≡ Least → z ≡ pos total
     at true q h = meets_is total z q
-    at false q h = let x : ◌≡◌ {A = ℕ} 0 1 = cc in absurd (omega arith)
+    at false q h = absurd cc
 
 module _ (c : Content) (h : Holds (tables_in c) c.size c.tally) where
   abbrev summary : Figures → Summary
@@ -54,7 +54,7 @@ module _ (c : Content) (h : Holds (tables_in c) c.size c.tally) where
     fair = λ low i. absurd (none-some low i);
     figure = λ low i. absurd (none-some low i);
     under = λ low i. absurd (none-some low i);
-    least = λ v. let x : ◌≡◌ {A = ℕ} 0 1 = cc in absurd (omega arith);
+    least = λ v. absurd cc;
   }
 
   some_shown : (total : ℕ) (floor : ℤ) → Shown (tables_in c) c.size c.tally.held c.tally.claims c.marks total floor → Shows c (summary (figures total (Some floor)))
@@ -76,7 +76,7 @@ module _ (c : Content) (h : Holds (tables_in c) c.size c.tally) where
     where
       certified : (marks : List ℤ) → c.marks ≡ marks → (r : Result Certificate CertifyFault) → certify_reply (tables_in c) c.size c.tally.held c.tally.claims marks ≡ r → ToldBy file (summed c (of_certificate (result_map_both (λ x. x) calls.from_certify r)))
       certified marks m (Ok k) g = (c, (read, some_shown k.total k.floor ((h.certified c.marks).shown k (ap (certify_reply (tables_in c) c.size c.tally.held c.tally.claims) m ∙ g))))
-      certified marks m (Err x) g = (c, (read, λ fair. let e = sym ((h.certified c.marks).granted fair) ∙ ap (certify_reply (tables_in c) c.size c.tally.held c.tally.claims) m ∙ g in let z : ◌≡◌ {A = ℕ} 0 1 = cc in omega arith))
+      certified marks m (Err x) g = (c, (read, λ fair. let e = sym ((h.certified c.marks).granted fair) ∙ ap (certify_reply (tables_in c) c.size c.tally.held c.tally.claims) m ∙ g in cc))
 
       by : (marks : List ℤ) → c.marks ≡ marks → ToldBy file (summed c (figures_by c marks))
       by [] m = (c, (read, none_shown))

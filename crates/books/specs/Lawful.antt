@@ -83,7 +83,7 @@ tracked_at_lem p (Some r) n h k e = let same : n ≡ r * p = cc in omega (arith,
 
 passes : {A B : Type 0} (r : Result A ArticleFault) (next : A → Result B ArticleFault) (x : B) (P : Type 0) → and_then r next ≡ Ok x → ((y : A) → next y ≡ Ok x → P) → P
 passes (Ok y) next x P e f = f y e
-passes (Err g) next x P e f = let z : ◌≡◌ {A = ℕ} 0 1 = cc in absurd (omega arith)
+passes (Err g) next x P e f = absurd cc
 
 aligned_limit : (q : Quote) (side : Side) (a b c : Terms) (n : ℕ) → Limits q → aligned q side a b c ≡ Ok n → n ≤ 5000000000
 aligned_limit q side a b c n l e =

@@ -90,11 +90,11 @@ mark_last held claims marks z =
 
 if_good_lem : {A : Type 0} (v : call.Verdict) (r : Result A Refusal) (x : A) → call.if_good v r ≡ Ok x → r ≡ Ok x
 if_good_lem (Ok tt) r x h = h
-if_good_lem (Err e) r x h = let z : ◌≡◌ {A = ℕ} 0 1 = cc in absurd (omega arith)
+if_good_lem (Err e) r x h = absurd cc
 
 is_none : (o : Option ℕ) → is_some o ≡ false → o ≡ None
 is_none None h = refl
-is_none (Some i) h = let z : ◌≡◌ {A = ℕ} 0 1 = cc in absurd (omega arith)
+is_none (Some i) h = absurd cc
 
 same_sets : (m n : ℕ) → ◌≡◌ {A = Result ℕ Refusal} (Ok m) (Ok n) → m ≡ n
 same_sets m n h = cc
@@ -103,9 +103,9 @@ module _ (t : Tables) (size : ℕ) (small : size ≤ 1000) (b d : Body) where
   -- ---- a position
 
   entry_made : (e : Entry) (a : Result Record RecordFault) (reply : Result ℕ Refusal) → record_of size e ≡ a → call.after_enter size b.tally e ≡ call.entered b.tally a reply → (none b.tally.claims && none b.marks) ≡ true → entered b (call.entered b.tally a reply) reply ≡ Ok d → call.entering b.tally.held a ≡ reply → Grown t size b ((codes "pos=" ++ join_with_byte 44 (entry_texts e)) ∷ []) d
-  entry_made e (Err f) (Ok n) is at due h granted = let z : ◌≡◌ {A = ℕ} 0 1 = cc in absurd (omega arith)
-  entry_made e (Err f) (Err x) is at due h granted = let z : ◌≡◌ {A = ℕ} 0 1 = cc in absurd (omega arith)
-  entry_made e (Ok r) (Err x) is at due h granted = let z : ◌≡◌ {A = ℕ} 0 1 = cc in absurd (omega arith)
+  entry_made e (Err f) (Ok n) is at due h granted = absurd cc
+  entry_made e (Err f) (Err x) is at due h granted = absurd cc
+  entry_made e (Ok r) (Err x) is at due h granted = absurd cc
   entry_made e (Ok r) (Ok n) is at due h granted =
       let i : body_of (record { held = b.tally.held ++ (r ∷ []); claims = b.tally.claims }) b.marks ≡ d = cc in
       let m = made size small e r is in
@@ -117,8 +117,8 @@ module _ (t : Tables) (size : ℕ) (small : size ≤ 1000) (b d : Body) where
       })
 
   position_read : (v : List ℕ) (due : Bool) → (none b.tally.claims && none b.marks) ≡ due → (r : Result Entry BadField) → entry_at 5 (split 44 v) ≡ r → cond due (entering size b r) (Err wrong_key) ≡ Ok d → Grown t size b ((codes "pos=" ++ v) ∷ []) d
-  position_read v false k r q h = let z : ◌≡◌ {A = ℕ} 0 1 = cc in absurd (omega arith)
-  position_read v true k (Err f) q h = let z : ◌≡◌ {A = ℕ} 0 1 = cc in absurd (omega arith)
+  position_read v false k r q h = absurd cc
+  position_read v true k (Err f) q h = absurd cc
   position_read v true k (Ok e) q h =
       subst (λ l. Grown t size b ((codes "pos=" ++ l) ∷ []) d) (entry_read 5 v e q)
       (entry_made e (record_of size e) (call.enter_reply size b.tally e) refl refl k h refl)
@@ -126,7 +126,7 @@ module _ (t : Tables) (size : ℕ) (small : size ≤ 1000) (b d : Body) where
   -- ---- a claim
 
   claim_made : (c : Claim) (reply : Result ℕ Refusal) → call.claim_reply t size b.tally c ≡ reply → none b.marks ≡ true → line_like b.tally.claims c ≡ None → entered b (call.claimed b.tally c reply) reply ≡ Ok d → Grown t size b (claim_line c ∷ []) d
-  claim_made c (Err x) granted due fresh h = let z : ◌≡◌ {A = ℕ} 0 1 = cc in absurd (omega arith)
+  claim_made c (Err x) granted due fresh h = absurd cc
   claim_made c (Ok n) granted due fresh h =
       let ls = b.tally.claims in
       let line : call.line_reply ls None c ≡ Ok n = ap (λ o. call.line_reply ls o c) (sym fresh) ∙ if_good_lem (call.claim_judged t size b.tally c) _ n granted in
@@ -141,12 +141,12 @@ module _ (t : Tables) (size : ℕ) (small : size ≤ 1000) (b d : Body) where
       })
 
   claim_fresh : (c : Claim) (o : Bool) → is_some (line_like b.tally.claims c) ≡ o → none b.marks ≡ true → cond o (Err repeated) (entered b (call.after_claim t size b.tally c) (call.claim_reply t size b.tally c)) ≡ Ok d → Grown t size b (claim_line c ∷ []) d
-  claim_fresh c true s due h = let z : ◌≡◌ {A = ℕ} 0 1 = cc in absurd (omega arith)
+  claim_fresh c true s due h = absurd cc
   claim_fresh c false s due h = claim_made c (call.claim_reply t size b.tally c) refl due (is_none (line_like b.tally.claims c) s) h
 
   claim_line_read : (v : List ℕ) (due : Bool) → none b.marks ≡ due → (r : Result Claim BadField) → claim_at 7 (split 44 v) ≡ r → cond due (claiming t size b r) (Err wrong_key) ≡ Ok d → Grown t size b ((codes "claim=" ++ v) ∷ []) d
-  claim_line_read v false k r q h = let z : ◌≡◌ {A = ℕ} 0 1 = cc in absurd (omega arith)
-  claim_line_read v true k (Err f) q h = let z : ◌≡◌ {A = ℕ} 0 1 = cc in absurd (omega arith)
+  claim_line_read v false k r q h = absurd cc
+  claim_line_read v true k (Err f) q h = absurd cc
   claim_line_read v true k (Ok c) q h =
       subst (λ l. Grown t size b ((codes "claim=" ++ l) ∷ []) d) (claim_read 7 v c q)
       (claim_fresh c (is_some (line_like b.tally.claims c)) refl k h)
@@ -154,8 +154,8 @@ module _ (t : Tables) (size : ℕ) (small : size ≤ 1000) (b d : Body) where
   -- ---- a mark
 
   mark_read : (v : List ℕ) (room : Bool) → ltb (length b.marks) 32 ≡ room → (r : Result ℤ BadField) → one_field integer 6 (split 44 v) ≡ r → cond room (marking b r) (Err wrong_key) ≡ Ok d → Grown t size b ((codes "mark=" ++ v) ∷ []) d
-  mark_read v false k r q h = let z : ◌≡◌ {A = ℕ} 0 1 = cc in absurd (omega arith)
-  mark_read v true k (Err f) q h = let z : ◌≡◌ {A = ℕ} 0 1 = cc in absurd (omega arith)
+  mark_read v false k r q h = absurd cc
+  mark_read v true k (Err f) q h = absurd cc
   mark_read v true k (Ok z) q h =
       let i : body_of b.tally (b.marks ++ (z ∷ [])) ≡ d = cc in
       let o = one_read reads_integer 6 v z q in
@@ -190,7 +190,7 @@ module _ (t : Tables) (size : ℕ) (small : size ≤ 1000) (b d : Body) where
       keyed f (codes "pos=") (strip (codes "pos=") f) (position_taken size b) _ refl position_taken_lem
       (keyed f (codes "claim=") (strip (codes "claim=") f) (claim_taken t size b) _ refl claim_taken_lem
       (keyed f (codes "mark=") (strip (codes "mark=") f) (mark_taken b) (Err wrong_key) refl mark_taken_lem
-      (λ z. let w : ◌≡◌ {A = ℕ} 0 1 = cc in absurd (omega arith))))
+      (λ z. absurd cc)))
       h
 
 -- ---- all lines
@@ -204,7 +204,7 @@ pub record BodyRead (t : Tables) (size : ℕ) (b : Body) (fs : List (List ℕ)) 
 module _ (t : Tables) (size : ℕ) (small : size ≤ 1000) (d : Body) where
   end_taken : (n : ℕ) (b : Body) (f : List ℕ) → at_end n b f ≡ Ok d → BodyRead t size b (f ∷ []) d
   end_taken n b [] h = let i : b ≡ d = cc in record { lines = []; is = refl; grown = subst (Grown t size b []) i (none_grown t size b) }
-  end_taken n b (c ∷ cs) h = let z : ◌≡◌ {A = ℕ} 0 1 = cc in absurd (omega arith)
+  end_taken n b (c ∷ cs) h = absurd cc
 
   pub body_read : (n : ℕ) (b : Body) (f : List ℕ) (fs : List (List ℕ)) → body_from t size n b (f ∷ fs) ≡ Ok d → BodyRead t size b (f ∷ fs) d
   body_read n b f [] h = end_taken n b f h
@@ -214,4 +214,4 @@ module _ (t : Tables) (size : ℕ) (small : size ≤ 1000) (d : Body) where
       at rest (Ok c) q h =
           let m = rest c h in
           record { lines = f ∷ m.lines; is = ap (λ l. f ∷ l) m.is; grown = more_grown t size b c d f m.lines (line_taken_lem t size small b c f q) m.grown }
-      at rest (Err x) q h = let z : ◌≡◌ {A = ℕ} 0 1 = cc in absurd (omega arith)
+      at rest (Err x) q h = absurd cc

@@ -61,13 +61,13 @@ line_bytes key fields k h = least_append 11 key (join_with_byte 44 fields) k (le
 module _ {A : Type 0} {reads : List ℕ → Option A} {text : A → List ℕ} {Good : A → Type 0} (R : Reads reads text Good) (key : List ℕ) where
   single_read : (p : ℕ) (v : List ℕ) (x : A) (r : Result A BadField) → one_field reads p (split 44 v) ≡ r → result_map_both (λ y. y) from_field r ≡ Ok x → One text Good v x
   single_read p v x (Ok y) q e = let i : y ≡ x = cc in one_read R p v x (q ∙ ap Ok i)
-  single_read p v x (Err b) q e = let z : ◌≡◌ {A = ℕ} 0 1 = cc in absurd (omega arith)
+  single_read p v x (Err b) q e = absurd cc
 
   value_read : (f : List ℕ) (x : A) (o : Option (List ℕ)) → strip key f ≡ o → after_key (single reads) (length key + 1) o ≡ Ok x → One (λ y. line key (text y ∷ [])) Good f x
   value_read f x (Some v) q e =
       let o = single_read (length key + 1) v x (one_field reads (length key + 1) (split 44 v)) refl e in
       record { text_is = ap (λ l. key ++ l) o.text_is ∙ strip_text key f v q; good = o.good }
-  value_read f x None q e = let z : ◌≡◌ {A = ℕ} 0 1 = cc in absurd (omega arith)
+  value_read f x None q e = absurd cc
 
   value_given : (x : A) → Good x → value_of reads key (line key (text x ∷ [])) ≡ Ok x
   value_given x g =
@@ -82,13 +82,13 @@ module _ {A : Type 0} {reads : List ℕ → Option A} {text : A → List ℕ} {G
       {B : Type 0} (n : ℕ) (fs : List (List ℕ)) (next : A → ℕ → List (List ℕ) → Result B ReadFault) (r : B) (W : List (List ℕ) → Type 0)
       → and_then (value_line reads key n fs) next ≡ Ok r → ((x : A) (g : List ℕ) (gs : List (List ℕ)) → Good x → next x (n + 1) (g ∷ gs) ≡ Ok r → W (line key (text x ∷ []) ∷ g ∷ gs)) → W fs
   unfolding value_line
-  line_read n [] next r W e k = let z : ◌≡◌ {A = ℕ} 0 1 = cc in absurd (omega arith)
-  line_read n (f ∷ []) next r W e k = let z : ◌≡◌ {A = ℕ} 0 1 = cc in absurd (omega arith)
+  line_read n [] next r W e k = absurd cc
+  line_read n (f ∷ []) next r W e k = absurd cc
   line_read n (f ∷ g ∷ gs) next r W e k = at (value_of reads key f) refl e
     where
       at : (o : Result A LineFault) → value_of reads key f ≡ o → and_then (line_gives n (g ∷ gs) o) next ≡ Ok r → W (f ∷ g ∷ gs)
       at (Ok x) h e = let o = value_read f x (strip key f) refl h in subst (λ l. W (l ∷ g ∷ gs)) o.text_is (k x g gs o.good e)
-      at (Err b) h e = let z : ◌≡◌ {A = ℕ} 0 1 = cc in absurd (omega arith)
+      at (Err b) h e = absurd cc
 
   pub line_given : {B : Type 0} (x : A) → Good x → (n : ℕ) (g : List ℕ) (gs : List (List ℕ)) (next : A → ℕ → List (List ℕ) → Result B ReadFault) → and_then (value_line reads key n (line key (text x ∷ []) ∷ g ∷ gs)) next ≡ next x (n + 1) (g ∷ gs)
   unfolding value_line
@@ -108,7 +108,7 @@ judged_read rates n s m fs g e = cc
 
 passed : {A : Type 0} (rates : A → Rates) (n : ℕ) (b : Bool) (r : Result A SheetFault) (f : SheetFault) (m : ℕ) (fs : List (List ℕ)) (g : Got Rates) → judged rates n (cond b r (Err f)) m fs ≡ Ok g → judged rates n r m fs ≡ Ok g
 passed rates n true r f m fs g e = e
-passed rates n false r f m fs g e = let z : ◌≡◌ {A = ℕ} 0 1 = cc in absurd (omega arith)
+passed rates n false r f m fs g e = absurd cc
 
 abbrev market_line : MarketName → List ℕ
 market_line market = line (codes "market=") (market_text market ∷ [])
@@ -157,7 +157,7 @@ with_size_lem size n fs g k (Ok s) q e =
     let i : record { value = record { size = size; rates = s.value }; place = s.place; left = s.left } ≡ g = cc in
     let r = sheet_read n fs s q in
     subst (HeadRead (size_line size ∷ fs)) i (record { first = r.first; others = r.others; left_is = r.left_is; is = ap (λ l. size_line size ∷ l) r.is; sized = k })
-with_size_lem size n fs g k (Err f) q e = let z : ◌≡◌ {A = ℕ} 0 1 = cc in absurd (omega arith)
+with_size_lem size n fs g k (Err f) q e = absurd cc
 
 -- a size in range, and its line
 record SizeRead (fs : List (List ℕ)) (s : Got ℕ) : Type 0 where
@@ -168,7 +168,7 @@ sized_read : (n size m : ℕ) (fs : List (List ℕ)) (s : Got ℕ) (f : ReadFaul
 sized_read n size m fs s f true k e =
     let i : record { value = size; place = m; left = fs } ≡ s = cc in
     subst (SizeRead (size_line size ∷ fs)) i (record { sized = k; is = refl })
-sized_read n size m fs s f false k e = let z : ◌≡◌ {A = ℕ} 0 1 = cc in absurd (omega arith)
+sized_read n size m fs s f false k e = absurd cc
 
 size_read : (n : ℕ) (fs : List (List ℕ)) (s : Got ℕ) → size_at n fs ≡ Ok s → SizeRead fs s
 size_read n fs s h =
@@ -182,7 +182,7 @@ head_read n fs g h = at (size_at n fs) refl h
     at (Ok s) q e =
         let z = size_read n fs s q in
         subst (λ l. HeadRead l g) (sym z.is) (with_size_lem s.value s.place s.left g z.sized (sheet_at s.place s.left) refl e)
-    at (Err f) q e = let z : ◌≡◌ {A = ℕ} 0 1 = cc in absurd (omega arith)
+    at (Err f) q e = absurd cc
 
 -- ---- a head that is written
 

@@ -37,7 +37,7 @@ digits_value n m (c ∷ cs) e = step (digits_value (n * 10 + (c - 48)) m cs) (is
         let low : c - 48 < 10 = grind (arith, nat_tests) in
         let more = rest e in
         ((omega arith, more.0), more.1 ∙ ap (λ k. digits_value_after 10 (n * 10 + k) cs) (sym d))
-    step rest false h e = let z : ◌≡◌ {A = ℕ} 0 1 = cc in absurd (omega arith)
+    step rest false h e = absurd cc
 
 -- 1 to 15 digits with no leading zero
 record Plain (n : ℕ) (ds : List ℕ) : Type 0 where
@@ -55,17 +55,17 @@ plain ds n most some first e =
     }
 
 read : (bs : List ℕ) (n : ℕ) → natural bs ≡ Some n → Plain n bs
-read [] n e = let z : ◌≡◌ {A = ℕ} 0 1 = cc in absurd (omega arith)
+read [] n e = absurd cc
 read (c ∷ []) n e = step (is_digit c) refl e
   where
     step : (b : Bool) → is_digit c ≡ b → cond b (Some (c - 48)) None ≡ Some n → Plain n (c ∷ [])
     step true h e = plain (c ∷ []) n (omega arith) (omega arith) (λ _. refl) (ap (λ b. cond b (Some (0 * 10 + (c - 48))) None) h ∙ ap Some (zero-add (c - 48)) ∙ e)
-    step false h e = let z : ◌≡◌ {A = ℕ} 0 1 = cc in absurd (omega arith)
+    step false h e = absurd cc
 read (c ∷ d ∷ cs) n e = step (eqb c 48) refl (leb (length cs) 13) refl e
   where
     step : (b : Bool) → eqb c 48 ≡ b → (k : Bool) → leb (length cs) 13 ≡ k → cond b None (cond k (digits_after 0 (c ∷ d ∷ cs)) None) ≡ Some n → Plain n (c ∷ d ∷ cs)
-    step true h k m e = let z : ◌≡◌ {A = ℕ} 0 1 = cc in absurd (omega arith)
-    step false h false m e = let z : ◌≡◌ {A = ℕ} 0 1 = cc in absurd (omega arith)
+    step true h k m e = absurd cc
+    step false h false m e = absurd cc
     step false h true m e = plain (c ∷ d ∷ cs) n (grind (arith, nat_tests)) (omega arith) (λ is. absurd (grind (arith, nat_tests))) e
 
 -- ---- a number that is written
@@ -143,7 +143,7 @@ module _ (z : ℤ) where
       let i : pos n ≡ z = cc in
       let p = read ds n h in
       subst (λ y. Signs y ds) i (record { same = p.same; small = p.small })
-  unsigned ds None h e = let o : ◌≡◌ {A = ℕ} 0 1 = cc in absurd (omega arith)
+  unsigned ds None h e = absurd cc
 
   minus : (d : ℕ) (ds : List ℕ) (n : ℕ) → eqb d 48 ≡ false → natural (d ∷ ds) ≡ Some n → Signs (neg_ℤ (pos n)) (45 ∷ d ∷ ds)
   minus d ds zero h e =
@@ -153,16 +153,16 @@ module _ (z : ℤ) where
   minus d ds (suc n) h e = let p = read (d ∷ ds) (suc n) e in record { same = ap (λ l. 45 ∷ l) p.same; small = p.small }
 
   negated : (ds : List ℕ) → negative ds ≡ Some z → Signs z (45 ∷ ds)
-  negated [] e = let o : ◌≡◌ {A = ℕ} 0 1 = cc in absurd (omega arith)
+  negated [] e = absurd cc
   negated (d ∷ ds) e = at (eqb d 48) refl (natural (d ∷ ds)) refl e
     where
       at : (b : Bool) → eqb d 48 ≡ b → (o : Option ℕ) → natural (d ∷ ds) ≡ o → cond b None (option_map (λ n. neg_ℤ (pos n)) o) ≡ Some z → Signs z (45 ∷ d ∷ ds)
-      at true h o k e = let o : ◌≡◌ {A = ℕ} 0 1 = cc in absurd (omega arith)
-      at false h None k e = let o : ◌≡◌ {A = ℕ} 0 1 = cc in absurd (omega arith)
+      at true h o k e = absurd cc
+      at false h None k e = absurd cc
       at false h (Some n) k e = let i : neg_ℤ (pos n) ≡ z = cc in subst (λ y. Signs y (45 ∷ d ∷ ds)) i (minus d ds n h k)
 
   read_signed : (bs : List ℕ) → integer bs ≡ Some z → Signs z bs
-  read_signed [] e = let o : ◌≡◌ {A = ℕ} 0 1 = cc in absurd (omega arith)
+  read_signed [] e = absurd cc
   read_signed (c ∷ cs) e = step (eqb c 45) refl e
     where
       step : (b : Bool) → eqb c 45 ≡ b → cond b (negative cs) (option_map pos (natural (c ∷ cs))) ≡ Some z → Signs z (c ∷ cs)

@@ -15,7 +15,7 @@ use Rattle.files.proofs.Words.{Upper, letter_text, reads_letter}
 -- no field was left
 pub end_read : {A : Type 0} (x r : A) (p : ℕ) (fs : List (List ℕ)) → end_at x p fs ≡ Ok r → (fs ≡ []) × (x ≡ r)
 end_read x r p [] e = (refl, cc)
-end_read x r p (f ∷ fs) e = let z : ◌≡◌ {A = ℕ} 0 1 = cc in absurd (omega arith)
+end_read x r p (f ∷ fs) e = absurd cc
 
 -- a value of one field
 pub record One {A : Type 0} (text : A → List ℕ) (Good : A → Type 0) (v : List ℕ) (x : A) : Type 0 where
@@ -28,12 +28,12 @@ module _ {A : Type 0} {reads : List ℕ → Option A} {text : A → List ℕ} {G
       {B : Type 0} (p : ℕ) (fs : List (List ℕ)) (next : A → ℕ → List (List ℕ) → Result B BadField) (r : B) (W : List (List ℕ) → Type 0)
       → and_then (field_at reads p fs) next ≡ Ok r → ((x : A) (q : ℕ) (gs : List (List ℕ)) → Good x → next x q gs ≡ Ok r → W (text x ∷ gs)) → W fs
   unfolding field_at
-  field_read p [] next r W e k = let z : ◌≡◌ {A = ℕ} 0 1 = cc in absurd (omega arith)
+  field_read p [] next r W e k = absurd cc
   field_read p (f ∷ fs) next r W e k = at (reads f) refl e
     where
       at : (o : Option A) → reads f ≡ o → and_then (got (ok_or o (bad_at p)) (p + (length f + 1)) fs) next ≡ Ok r → W (f ∷ fs)
       at (Some x) h e = subst (λ g. W (g ∷ fs)) (R.written f x h) (k x (p + (length f + 1)) fs (R.good f x h) e)
-      at None h e = let z : ◌≡◌ {A = ℕ} 0 1 = cc in absurd (omega arith)
+      at None h e = absurd cc
 
   pub given : {B : Type 0} (x : A) → Good x → (p : ℕ) (fs : List (List ℕ)) (next : A → ℕ → List (List ℕ) → Result B BadField) → and_then (field_at reads p (text x ∷ fs)) next ≡ next x (p + (length (text x) + 1)) fs
   unfolding field_at

@@ -38,7 +38,7 @@ record FileRead (fs : List (List ℕ)) (c : Content) : Type 0 where
   sized : inside 1 1000 c.size ≡ true
 
 body_file : (fs : List (List ℕ)) (g : Got Head) (c : Content) (f : List ℕ) (others : List (List ℕ)) → HeadRead fs g → g.left ≡ f ∷ others → (r : Result Body ReadFault) → body_from (tables_by g.value.rates) g.value.size g.place no_body (f ∷ others) ≡ r → with_head g.value r ≡ Ok c → FileRead fs c
-body_file fs g c f others h left (Err x) q e = let z : ◌≡◌ {A = ℕ} 0 1 = cc in absurd (omega arith)
+body_file fs g c f others h left (Err x) q e = absurd cc
 body_file fs g c f others h left (Ok b) q e =
     let t = tables_by g.value.rates in
     let size = g.value.size in
@@ -54,7 +54,7 @@ body_file fs g c f others h left (Ok b) q e =
     })
 
 pieces_read : (fs : List (List ℕ)) (c : Content) (r : Result (Got Head) ReadFault) → head_at 1 fs ≡ r → and_then r (λ h n gs. with_head h (body_from (tables_by h.rates) h.size n no_body gs)) ≡ Ok c → FileRead fs c
-pieces_read fs c (Err x) q e = let z : ◌≡◌ {A = ℕ} 0 1 = cc in absurd (omega arith)
+pieces_read fs c (Err x) q e = absurd cc
 pieces_read fs c (Ok g) q e =
     let h = head_read 1 fs g q in
     body_file fs g c h.first h.others h h.left_is _ refl

@@ -26,13 +26,13 @@ record Lettered (c : ℕ) (f : List ℕ) : Type 0 where
   upper : Upper c
 
 lettered : (f : List ℕ) (x : ℕ) → letter f ≡ Some x → Lettered x f
-lettered [] x e = let z : ◌≡◌ {A = ℕ} 0 1 = cc in absurd (omega arith)
+lettered [] x e = absurd cc
 lettered (c ∷ []) x e = at (is_upper c) refl e
   where
     at : (b : Bool) → is_upper c ≡ b → cond b (Some c) None ≡ Some x → Lettered x (c ∷ [])
     at true u e = let i : c ≡ x = cc in record { text = ap letter_text (sym i); upper = ap is_upper (sym i) ∙ u }
-    at false u e = let z : ◌≡◌ {A = ℕ} 0 1 = cc in absurd (omega arith)
-lettered (c ∷ d ∷ cs) x e = let z : ◌≡◌ {A = ℕ} 0 1 = cc in absurd (omega arith)
+    at false u e = absurd cc
+lettered (c ∷ d ∷ cs) x e = absurd cc
 
 pub reads_letter : Reads letter letter_text Upper
 reads_letter = record {
@@ -50,7 +50,7 @@ worded text bs w x y other is next true s e = let i : x ≡ y = cc in ap text (s
 worded text bs w x y other is next false s e = next e
 
 never : {A : Type 0} {P : Type 0} (x : A) → None ≡ Some x → P
-never x e = let z : ◌≡◌ {A = ℕ} 0 1 = cc in absurd (omega arith)
+never x e = absurd cc
 
 -- every value is good
 abbrev pub Any : {A : Type 0} → A → Type 0
@@ -102,9 +102,9 @@ record Rated (x : Option ℕ) (f : List ℕ) : Type 0 where
 
 rated : (f : List ℕ) (x : Option ℕ) → (b : Bool) → bytes_eq f (codes "none") ≡ b → (o : Option ℕ) → natural f ≡ o → cond b (Some None) (option_map Some o) ≡ Some x → Rated x f
 rated f None true s o q e = record { text = sym ((bytes_eq-Decides f (codes "none")).0 s); small = tt }
-rated f (Some n) true s o q e = let z : ◌≡◌ {A = ℕ} 0 1 = cc in absurd (omega arith)
+rated f (Some n) true s o q e = absurd cc
 rated f x false s None q e = never x e
-rated f None false s (Some n) q e = let z : ◌≡◌ {A = ℕ} 0 1 = cc in absurd (omega arith)
+rated f None false s (Some n) q e = absurd cc
 rated f (Some m) false s (Some n) q e = let i : n ≡ m = cc in let is : natural f ≡ Some m = cc in record { text = reads_natural.written f m is; small = reads_natural.good f m is }
 
 digit_none : (bs : List ℕ) → Leads bs → bytes_eq bs (codes "none") ≡ false
