@@ -1,17 +1,17 @@
 -- The first mark beyond its limit, by its place among the marks.
 use Rattle.std.proofs.Common.{◌≡◌, ℕ, suc, ◌+◌, ◌-◌, ◌<◌, Bool, true, false, cond, List, [], ◌∷◌, length, get_or, ℤ, pos, Some, None, Option, sym, refl, ap, ◌∙◌, subst, arith}
-use Rattle.std.specs.Option.{option_map}
+use Rattle.std.specs.Option.{option_or, option_map}
 use Rattle.std.specs.List.{position, position_from, zip}
 use Rattle.std.proofs.lemmas.Iterator.Adapters.{position_from-zero}
 use Rattle.std.proofs.lemmas.Slice.Zip.{length-zip, get_or-zip}
 use Rattle.positions.specs.declared.record.Record.{Record}
 use Rattle.pairing.specs.Pairing.{no_record, limit}
-use Rattle.breaches.specs.Search.{first_of, or_else}
+use Rattle.breaches.specs.Search.{first_of}
 use Rattle.certificate.specs.Certified.{beyond, beyond_at, first_beyond}
 
-step : (b : Bool) (i : ℕ) (later o rest : Option ℕ) → o ≡ cond b (Some (i + 1)) None → option_map (λ k. k + 1) later ≡ rest → option_map (λ k. k + 1) (cond b (Some i) later) ≡ or_else o rest
-step true i later o rest e h = ap (λ (z : Option ℕ). or_else z rest) (sym e)
-step false i later o rest e h = h ∙ ap (λ (z : Option ℕ). or_else z rest) (sym e)
+step : (b : Bool) (i : ℕ) (later o rest : Option ℕ) → o ≡ cond b (Some (i + 1)) None → option_map (λ k. k + 1) later ≡ rest → option_map (λ k. k + 1) (cond b (Some i) later) ≡ option_or o rest
+step true i later o rest e h = ap (λ (z : Option ℕ). option_or z rest) (sym e)
+step false i later o rest e h = h ∙ ap (λ (z : Option ℕ). option_or z rest) (sym e)
 
 -- f answers the number of each element that passes, counted from i + 1
 first_place : {X : Type 0} (test : X → Bool) (f : ℕ → Option ℕ) (d : X) (xs : List X) (i : ℕ) → ((j : ℕ) → j < length xs → f (i + 1 + j) ≡ cond (test (get_or xs j d)) (Some (i + 1 + j)) None) → option_map (λ k. k + 1) (position_from test i xs) ≡ first_of f (i + 1) (length xs)
