@@ -1,17 +1,15 @@
 -- A line claimed again, after the lines before it.
-use Rattle.std.proofs.Common.{◌≡◌, ℕ, zero, suc, ◌+◌, ◌-◌, ◌*◌, ◌<◌, ◌≤◌, Bool, true, not, ◌||◌, eqb, ltb, leb, List, [], ◌∷◌, ◌++◌, length, replicate, Ok, Option, Result, sym, refl, ap, ◌∙◌, subst, ⊎_elim, mul-le-mul, arith, length-append}
+use Rattle.std.proofs.Common.{◌≡◌, ℕ, zero, suc, ◌+◌, ◌-◌, ◌*◌, ◌<◌, ◌≤◌, true, not, ◌||◌, eqb, leb, List, [], ◌∷◌, ◌++◌, length, replicate, Ok, Option, sym, refl, ap, ◌∙◌, subst, ⊎_elim, mul-le-mul, arith, length-append}
 use Rattle.std.proofs.lemmas.Bool.Decides.{nat_tests}
 use Rattle.std.proofs.lemmas.Bool.{cases_eq, eqb-true, eq-eqb, ne_eqb, le-leb, lt-ltb, cond-true, cond-false, and_from, or_cases, or_left, or_right}
 use Rattle.amounts.specs.Ranges.{inside}
 use Rattle.positions.specs.declared.record.Record.{Record}
 use Rattle.books.specs.Tables.{Tables, Lawful}
 use Rattle.pairing.specs.declared.Claim.{Claim}
-use Rattle.pairing.specs.Pairing.{Set, Position, Positions, at, among, distinct, Allowed, lot, takes, AllAllowed}
+use Rattle.pairing.specs.Pairing.{Set, Position, Positions, at, answer, among, distinct, Allowed, lot, takes, AllAllowed}
 use Rattle.pairing.specs.Claims.{legs_of, set_of, taken, ClaimsAllowed, Sound, pairing_of}
-use Rattle.dockets.specs.declared.Refusal.{Refusal}
 use Rattle.dockets.specs.Tally.{Tally}
-use Rattle.dockets.specs.Finding.{line_like}
-use Rattle.dockets.specs.Calls.{Verdict, good, unless, if_good, article_ok, third_ok, positions_ok, apart_ok, book_ok, covers, covered_ok, line_reply, claim_judged, claim_reply, claimed, put}
+use Rattle.dockets.specs.Calls.{good, third_ok, book_ok, covers, claim_judged, claim_reply, claimed, put}
 use Rattle.runs.specs.Laws.{Holds}
 use Rattle.runs.proofs.Passed.{two_legs, three_legs}
 use Rattle.replays.specs.Replay.{holding, ClaimsAgain}
@@ -61,12 +59,6 @@ sound t s y k h = record {
 }
 
 -- ---- a reply, put together
-
-pass : {A : Type 0} (b : Bool) (e : Refusal) (r x : Result A Refusal) → b ≡ true → r ≡ x → unless b e r ≡ x
-pass b e r x h k = ap (λ (z : Bool). unless z e r) h ∙ k
-
-go_on : {A : Type 0} (v : Verdict) (r x : Result A Refusal) → v ≡ good → r ≡ x → if_good v r ≡ x
-go_on v r x h k = ap (λ (z : Verdict). if_good z r) h ∙ k
 
 in_range_lem : (n p : ℕ) → (1 ≤ p) × (p ≤ n) → inside 1 n p ≡ true
 in_range_lem n p h = and_from (leb 1 p) (leb p n) (le-leb 1 p h.0) (le-leb p n h.1)
@@ -153,21 +145,14 @@ module _ (t : Tables) (law : Lawful t) (s : ℕ) (held : List Record) (before : 
       (λ e. or_left (eqb c.third 0) (covers s y c c.third) (eq-eqb c.third 0 e))
       (λ d. or_right (eqb c.third 0) (covers s y c c.third) (enough h c.third (omega arith, l.third) (l.three d)))
       (cases_eq c.third 0) in
-      go_on (article_ok t.articles c) _ good
-      (pass (inside 1 t.articles c.article) _ _ good (in_range_lem t.articles c.article a.article)
-      (pass (inside 1 5000 c.sets) _ good good (in_range_lem 5000 c.sets (sets_there before c others k)) refl))
-      (go_on (positions_ok (length held) (t.legs c.article) c) _ good
-      (pass (inside 1 (length held) c.first) _ _ good (in_range_lem (length held) c.first l.first)
-      (pass (inside 1 (length held) c.second) _ _ good (in_range_lem (length held) c.second l.second)
-      (pass (third_ok (length held) (t.legs c.article) c.third) _ good good l.needed refl)))
-      (go_on (apart_ok c) _ good
-      (pass (not (eqb c.second c.first)) _ _ good l.apart
-      (pass (not (eqb c.third c.first || eqb c.third c.second)) _ good good l.others refl))
-      (go_on _ (covered_ok s y c) good
-      (ap book_ok a.granted)
-      (pass (covers s y c c.first) _ _ good (enough h c.first l.first l.one)
-      (pass (covers s y c c.second) _ _ good (enough h c.second l.second l.two)
-      (pass (eqb c.third 0 || covers s y c c.third) _ good good last refl))))))
+      let article = in_range_lem t.articles c.article a.article in
+      let sets = in_range_lem 5000 c.sets (sets_there before c others k) in
+      let first = in_range_lem (length held) c.first l.first in
+      let second = in_range_lem (length held) c.second l.second in
+      let passed : book_ok (answer t s held (set_of c)) ≡ good = ap book_ok a.granted in
+      let one = enough h c.first l.first l.one in
+      let two = enough h c.second l.second l.two in
+      simp (article, sets, first, second, l.needed, l.apart, l.others, passed, one, two, last)
 
   pub claims_again : Sound t s held (before ++ (c ∷ others)) → Standing (before ++ (c ∷ others)) → length held ≤ 32 → ClaimsAgain t s held before c
   claims_again h k few =
@@ -176,9 +161,9 @@ module _ (t : Tables) (law : Lawful t) (s : ℕ) (held : List Record) (before : 
       let none = fresh before c others k.lines in
       let room : length before < 64 = omega (arith, k.few, length-append before (c ∷ others)) in
       let sets = sets_there before c others k.lines in
-      let reply : claim_reply t s y c ≡ Ok c.sets =
-      go_on (claim_judged t s y c) (line_reply before (line_like before c) c) (Ok c.sets) (judged h k.lines)
-      (ap (λ (o : Option ℕ). line_reply before o c) none ∙ pass (ltb (length before) 64) _ (Ok c.sets) (Ok c.sets) (lt-ltb (length before) 64 room) refl) in
+      let good_claim = judged h k.lines in
+      let few_lines = lt-ltb (length before) 64 room in
+      let reply : claim_reply t s y c ≡ Ok c.sets = simp (good_claim, none, few_lines) in
       record {
         fresh = none;
         granted = reply;

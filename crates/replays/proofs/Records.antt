@@ -1,7 +1,7 @@
 -- The entry that made a record is the one that makes it again.
-use Rattle.std.proofs.Common.{◌≡◌, ℕ, ◌≤◌, Bool, true, false, cond, eqb, leb, Some, None, Ok, Err, Option, Result, refl, ap, ◌∙◌, arith}
+use Rattle.std.proofs.Common.{◌≡◌, ℕ, ◌≤◌, Bool, true, false, cond, leb, Some, None, Ok, Err, Option, Result, refl, ap, ◌∙◌, arith}
 use Rattle.std.proofs.lemmas.Bool.Decides.{nat_tests}
-use Rattle.std.proofs.lemmas.Bool.{eqb-true, leb-true, and_parts}
+use Rattle.std.proofs.lemmas.Bool.{leb-true, and_parts}
 use Rattle.positions.specs.declared.Side.{Side}
 use Rattle.positions.specs.declared.Side.TheVariants.{Long, Short}
 use Rattle.positions.specs.declared.Kind.{Kind}

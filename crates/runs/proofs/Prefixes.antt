@@ -19,15 +19,17 @@ replies_push t s y (c ∷ cs) k = ap (λ (rs : List Reply). reply_to t s y c ∷
 -- a turn of a loop over the calls
 module _ (t : Tables) (s : ℕ) (y : Tally) (cs : List Call) (i : ℕ) (d : Call) (h : i < length cs) where
   pub ran_more : (z : Tally) → z ≡ after t s (ran t s y (take i cs)) (get_or cs i d) → z ≡ ran t s y (take (i + 1) cs)
-  ran_more z e = e ∙ sym (ran_push t s y (take i cs) (get_or cs i d)) ∙ ap (λ (ks : List Call). ran t s y ks) (sym (take_more cs i d h))
+  ran_more z e =
+      let push = ran_push t s y (take i cs) (get_or cs i d) in
+      let more = take_more cs i d h in
+      cc
 
   pub replies_more : (os : List Reply) (a : Reply) → i < length os → take i os ≡ replies t s y (take i cs) → a ≡ reply_to t s (ran t s y (take i cs)) (get_or cs i d) → take (i + 1) (set os i a) ≡ replies t s y (take (i + 1) cs)
   replies_more os a k e r =
-      take_more_set os i a k
-      ∙ ap (λ (w : List Reply). w ++ (a ∷ [])) e
-      ∙ ap (λ (x : Reply). replies t s y (take i cs) ++ (x ∷ [])) r
-      ∙ sym (replies_push t s y (take i cs) (get_or cs i d))
-      ∙ ap (λ (ks : List Call). replies t s y ks) (sym (take_more cs i d h))
+      let front = take_more_set os i a k in
+      let push = replies_push t s y (take i cs) (get_or cs i d) in
+      let more = take_more cs i d h in
+      cc
 
 pub places_more : (os ps : List Reply) (i : ℕ) (a : Reply) → drop i os ≡ drop i ps → drop (i + 1) (set os i a) ≡ drop (i + 1) ps
 places_more os ps i a e = drop-set-lt (i + 1) os i a (omega arith) ∙ sym (drop-drop 1 i os) ∙ ap (drop 1) e ∙ drop-drop 1 i ps
@@ -41,21 +43,14 @@ onward t law s y z k e led =
 -- the same call, at a book and a size that are equal
 module _ {K : Type 0} (T : K → Tables) {b c : K} {s r : ℕ} (p : b ≡ c) (q : s ≡ r) {y w : Tally} (e : y ≡ w) (k : Call) where
   pub after_same : (z : Tally) → z ≡ after (T b) s y k → z ≡ after (T c) r w k
-  after_same z h = h ∙ ap (λ (x : K). after (T x) s y k) p ∙ ap (λ (n : ℕ). after (T c) n y k) q ∙ ap (λ (x : Tally). after (T c) r x k) e
+  after_same z h = cc
 
   pub reply_same : (a : Reply) → a ≡ reply_to (T b) s y k → a ≡ reply_to (T c) r w k
-  reply_same a h = h ∙ ap (λ (x : K). reply_to (T x) s y k) p ∙ ap (λ (n : ℕ). reply_to (T c) n y k) q ∙ ap (λ (x : Tally). reply_to (T c) r x k) e
+  reply_same a h = cc
 
 -- a run from a docket just opened
 pub opened :
     {K : Type 0} (T : K → Tables) {b c : K} {s r : ℕ} {y : Tally} → b ≡ c → s ≡ r → y ≡ empty → Lawful (T c) → (calls : List Call) (places filled : List Reply) (z : Tally)
     → filled ≡ replies (T b) s y (take (served calls places) calls) ++ drop (served calls places) places → z ≡ ran (T b) s y (take (served calls places) calls)
     → Ran (T c) r calls places filled z
-opened {K} T {b} {c} {s} {r} {y} p q e law calls places filled z f h =
-    let cs = take (served calls places) calls in
-    let rest = drop (served calls places) places in
-    record {
-      replied = f ∙ ap (λ (x : K). replies (T x) s y cs ++ rest) p ∙ ap (λ (n : ℕ). replies (T c) n y cs ++ rest) q ∙ ap (λ (x : Tally). replies (T c) r x cs ++ rest) e;
-      tallied = h ∙ ap (λ (x : K). ran (T x) s y cs) p ∙ ap (λ (n : ℕ). ran (T c) n y cs) q ∙ ap (λ (x : Tally). ran (T c) r x cs) e;
-      held = λ k. runs_hold (T c) r (take k calls) law;
-    }
+opened {K} T {b} {c} {s} {r} {y} p q e law calls places filled z f h = record { replied = cc; tallied = cc; held = λ k. runs_hold (T c) r (take k calls) law }
