@@ -13,7 +13,7 @@ use Rattle.files.proofs.Numbers.{Small, reads_natural}
 use Rattle.files.proofs.Words.{Upper, letter_text, reads_letter}
 
 -- no field was left
-pub end_read : {A : Type 0} (x r : A) (p : ℕ) (fs : List (List ℕ)) → end_at x p fs ≡ Ok r → (fs ≡ []) × (x ≡ r)
+end_read : {A : Type 0} (x r : A) (p : ℕ) (fs : List (List ℕ)) → end_at x p fs ≡ Ok r → (fs ≡ []) × (x ≡ r)
 end_read x r p [] e = (refl, cc)
 end_read x r p (f ∷ fs) e = absurd cc
 
@@ -22,17 +22,23 @@ pub record One {A : Type 0} (text : A → List ℕ) (Good : A → Type 0) (v : L
   pub text_is : text x ≡ v
   pub good : Good x
 
+-- the first of the fields was read, and then the others
+record FieldRead {A B : Type 0} (text : A → List ℕ) (Good : A → Type 0) (fs : List (List ℕ)) (next : A → ℕ → List (List ℕ) → Result B BadField) (r : B) : Type 0 where
+  value : A
+  place : ℕ
+  left : List (List ℕ)
+  joined : (gs : List (List ℕ)) → gs ≡ left → text value ∷ gs ≡ fs
+  good : Good value
+  rest : next value place left ≡ Ok r
+
 module _ {A : Type 0} {reads : List ℕ → Option A} {text : A → List ℕ} {Good : A → Type 0} (R : Reads reads text Good) where
-  -- the first of the fields was read, and then the others
-  pub field_read :
-      {B : Type 0} (p : ℕ) (fs : List (List ℕ)) (next : A → ℕ → List (List ℕ) → Result B BadField) (r : B) (W : List (List ℕ) → Type 0)
-      → and_then (field_at reads p fs) next ≡ Ok r → ((x : A) (q : ℕ) (gs : List (List ℕ)) → Good x → next x q gs ≡ Ok r → W (text x ∷ gs)) → W fs
+  field_read : {B : Type 0} (p : ℕ) (fs : List (List ℕ)) (next : A → ℕ → List (List ℕ) → Result B BadField) (r : B) → and_then (field_at reads p fs) next ≡ Ok r → FieldRead text Good fs next r
   unfolding field_at
-  field_read p [] next r W e k = absurd cc
-  field_read p (f ∷ fs) next r W e k = at (reads f) refl e
+  field_read p [] next r e = absurd cc
+  field_read p (f ∷ fs) next r e = at (reads f) refl e
     where
-      at : (o : Option A) → reads f ≡ o → and_then (got (ok_or o (bad_at p)) (p + (length f + 1)) fs) next ≡ Ok r → W (f ∷ fs)
-      at (Some x) h e = subst (λ g. W (g ∷ fs)) (R.written f x h) (k x (p + (length f + 1)) fs (R.good f x h) e)
+      at : (o : Option A) → reads f ≡ o → and_then (got (ok_or o (bad_at p)) (p + (length f + 1)) fs) next ≡ Ok r → FieldRead text Good (f ∷ fs) next r
+      at (Some x) h e = record { value = x; place = p + (length f + 1); left = fs; joined = λ gs g. (λ i. R.written f x h i ∷ g i); good = R.good f x h; rest = e }
       at None h e = absurd cc
 
   pub given : {B : Type 0} (x : A) → Good x → (p : ℕ) (fs : List (List ℕ)) (next : A → ℕ → List (List ℕ) → Result B BadField) → and_then (field_at reads p (text x ∷ fs)) next ≡ next x (p + (length (text x) + 1)) fs
@@ -41,12 +47,9 @@ module _ {A : Type 0} {reads : List ℕ → Option A} {text : A → List ℕ} {G
 
   pub one_read : (p : ℕ) (v : List ℕ) (x : A) → one_field reads p (split 44 v) ≡ Ok x → One text Good v x
   one_read p v x e =
-      let all : (split 44 v ≡ text x ∷ []) × Good x =
-      field_read p (split 44 v) end_at x (λ l. (l ≡ text x ∷ []) × Good x) e (λ y q gs g h.
-      let z = end_read y x q gs h in
-      ((λ i. text (z.1 i) ∷ z.0 i), subst Good z.1 g))
-      in
-      record { text_is = ap (join_with_byte 44) (sym all.0) ∙ rejoin 44 v; good = all.1 }
+      let a = field_read p (split 44 v) end_at x e in
+      let z = end_read a.value x a.place a.left a.rest in
+      record { text_is = ap (join_with_byte 44) (ap (λ y. text y ∷ []) (sym z.1) ∙ a.joined [] (sym z.0)) ∙ rejoin 44 v; good = subst Good z.1 a.good }
 
   pub one_given : (p : ℕ) (x : A) → Good x → one_field reads p (split 44 (text x)) ≡ Ok x
   one_given p x g = ap (one_field reads p) (split_rejoined 44 45 (omega arith) (text x) [] (R.bytes x g, tt)) ∙ given x g p [] end_at
@@ -66,15 +69,15 @@ pub record GoodEntry (e : Entry) : Type 0 where
 
 pub entry_read : (p : ℕ) (v : List ℕ) (e : Entry) → entry_at p (split 44 v) ≡ Ok e → join_with_byte 44 (entry_texts e) ≡ v
 entry_read p v e h =
-    ap (join_with_byte 44)
-    (field_read reads_letter p (split 44 v) _ e (λ l. entry_texts e ≡ l) h (λ side p fs _ h.
-    field_read reads_letter p fs _ e (λ l. entry_texts e ≡ letter_text side ∷ l) h (λ kind p fs _ h.
-    field_read reads_natural p fs _ e (λ l. entry_texts e ≡ letter_text side ∷ letter_text kind ∷ l) h (λ strike p fs _ h.
-    field_read reads_natural p fs _ e (λ l. entry_texts e ≡ letter_text side ∷ letter_text kind ∷ decimal strike ∷ l) h (λ days p fs _ h.
-    field_read reads_natural p fs _ e (λ l. entry_texts e ≡ letter_text side ∷ letter_text kind ∷ decimal strike ∷ decimal days ∷ l) h (λ price p fs _ h.
-    field_read reads_natural p fs _ e (λ l. entry_texts e ≡ letter_text side ∷ letter_text kind ∷ decimal strike ∷ decimal days ∷ decimal price ∷ l) h (λ quantity p fs _ h.
-    let z = end_read _ e p fs h in
-    ap entry_texts (sym z.1) ∙ ap (λ l. letter_text side ∷ letter_text kind ∷ decimal strike ∷ decimal days ∷ decimal price ∷ decimal quantity ∷ l) (sym z.0))))))))
+    let side = field_read reads_letter p (split 44 v) _ e h in
+    let kind = field_read reads_letter side.place side.left _ e side.rest in
+    let strike = field_read reads_natural kind.place kind.left _ e kind.rest in
+    let days = field_read reads_natural strike.place strike.left _ e strike.rest in
+    let price = field_read reads_natural days.place days.left _ e days.rest in
+    let quantity = field_read reads_natural price.place price.left _ e price.rest in
+    let z = end_read _ e quantity.place quantity.left quantity.rest in
+    ap (λ x. join_with_byte 44 (entry_texts x)) (sym z.1)
+    ∙ ap (join_with_byte 44) (side.joined _ (kind.joined _ (strike.joined _ (days.joined _ (price.joined _ (quantity.joined [] (sym z.0)))))))
     ∙ rejoin 44 v
 
 pub entry_bytes : (e : Entry) → GoodEntry e → EachAtLeast 45 (entry_texts e)
@@ -105,14 +108,14 @@ pub record GoodClaim (c : Claim) : Type 0 where
 
 pub claim_read : (p : ℕ) (v : List ℕ) (c : Claim) → claim_at p (split 44 v) ≡ Ok c → join_with_byte 44 (claim_texts c) ≡ v
 claim_read p v c h =
-    ap (join_with_byte 44)
-    (field_read reads_natural p (split 44 v) _ c (λ l. claim_texts c ≡ l) h (λ article p fs _ h.
-    field_read reads_natural p fs _ c (λ l. claim_texts c ≡ decimal article ∷ l) h (λ first p fs _ h.
-    field_read reads_natural p fs _ c (λ l. claim_texts c ≡ decimal article ∷ decimal first ∷ l) h (λ second p fs _ h.
-    field_read reads_natural p fs _ c (λ l. claim_texts c ≡ decimal article ∷ decimal first ∷ decimal second ∷ l) h (λ third p fs _ h.
-    field_read reads_natural p fs _ c (λ l. claim_texts c ≡ decimal article ∷ decimal first ∷ decimal second ∷ decimal third ∷ l) h (λ sets p fs _ h.
-    let z = end_read _ c p fs h in
-    ap claim_texts (sym z.1) ∙ ap (λ l. decimal article ∷ decimal first ∷ decimal second ∷ decimal third ∷ decimal sets ∷ l) (sym z.0)))))))
+    let article = field_read reads_natural p (split 44 v) _ c h in
+    let first = field_read reads_natural article.place article.left _ c article.rest in
+    let second = field_read reads_natural first.place first.left _ c first.rest in
+    let third = field_read reads_natural second.place second.left _ c second.rest in
+    let sets = field_read reads_natural third.place third.left _ c third.rest in
+    let z = end_read _ c sets.place sets.left sets.rest in
+    ap (λ x. join_with_byte 44 (claim_texts x)) (sym z.1)
+    ∙ ap (join_with_byte 44) (article.joined _ (first.joined _ (second.joined _ (third.joined _ (sets.joined [] (sym z.0))))))
     ∙ rejoin 44 v
 
 pub claim_bytes : (c : Claim) → GoodClaim c → EachAtLeast 45 (claim_texts c)
