@@ -58,6 +58,14 @@ line_bytes key fields k h = least_append 11 key (join_with_byte 44 fields) k (le
 
 -- ---- a key and one field
 
+-- a line that was due was read, and then the others
+record LineRead {A B : Type 0} (text : A → List ℕ) (Good : A → Type 0) (key : List ℕ) (n : ℕ) (fs : List (List ℕ)) (next : A → ℕ → List (List ℕ) → Result B ReadFault) (r : B) : Type 0 where
+  value : A
+  first : List ℕ
+  others : List (List ℕ)
+  joined : (gs : List (List ℕ)) → gs ≡ first ∷ others → line key (text value ∷ []) ∷ gs ≡ fs
+  rest : next value (n + 1) (first ∷ others) ≡ Ok r
+
 module _ {A : Type 0} {reads : List ℕ → Option A} {text : A → List ℕ} {Good : A → Type 0} (R : Reads reads text Good) (key : List ℕ) where
   single_read : (p : ℕ) (v : List ℕ) (x : A) (r : Result A BadField) → one_field reads p (split 44 v) ≡ r → result_map_both (λ y. y) from_field r ≡ Ok x → One text Good v x
   single_read p v x (Ok y) q e = let i : y ≡ x = cc in one_read R p v x (q ∙ ap Ok i)
@@ -77,17 +85,14 @@ module _ {A : Type 0} {reads : List ℕ → Option A} {text : A → List ℕ} {G
   pub value_bytes : (x : A) → at_least 11 key ≡ true → Good x → AtLeast 11 (line key (text x ∷ []))
   value_bytes x k g = line_bytes key (text x ∷ []) (least 11 key k) (R.bytes x g, tt)
 
-  -- a line that was due, and then the others
-  pub line_read :
-      {B : Type 0} (n : ℕ) (fs : List (List ℕ)) (next : A → ℕ → List (List ℕ) → Result B ReadFault) (r : B) (W : List (List ℕ) → Type 0)
-      → and_then (value_line reads key n fs) next ≡ Ok r → ((x : A) (g : List ℕ) (gs : List (List ℕ)) → Good x → next x (n + 1) (g ∷ gs) ≡ Ok r → W (line key (text x ∷ []) ∷ g ∷ gs)) → W fs
+  line_read : {B : Type 0} (n : ℕ) (fs : List (List ℕ)) (next : A → ℕ → List (List ℕ) → Result B ReadFault) (r : B) → and_then (value_line reads key n fs) next ≡ Ok r → LineRead text Good key n fs next r
   unfolding value_line
-  line_read n [] next r W e k = absurd cc
-  line_read n (f ∷ []) next r W e k = absurd cc
-  line_read n (f ∷ g ∷ gs) next r W e k = at (value_of reads key f) refl e
+  line_read n [] next r e = absurd cc
+  line_read n (f ∷ []) next r e = absurd cc
+  line_read n (f ∷ g ∷ gs) next r e = at (value_of reads key f) refl e
     where
-      at : (o : Result A LineFault) → value_of reads key f ≡ o → and_then (line_gives n (g ∷ gs) o) next ≡ Ok r → W (f ∷ g ∷ gs)
-      at (Ok x) h e = let o = value_read f x (strip key f) refl h in subst (λ l. W (l ∷ g ∷ gs)) o.text_is (k x g gs o.good e)
+      at : (o : Result A LineFault) → value_of reads key f ≡ o → and_then (line_gives n (g ∷ gs) o) next ≡ Ok r → LineRead text Good key n (f ∷ g ∷ gs) next r
+      at (Ok x) h e = let o = value_read f x (strip key f) refl h in record { value = x; first = g; others = gs; joined = λ ls q. (λ i. o.text_is i ∷ q i); rest = e }
       at (Err b) h e = absurd cc
 
   pub line_given : {B : Type 0} (x : A) → Good x → (n : ℕ) (g : List ℕ) (gs : List (List ℕ)) (next : A → ℕ → List (List ℕ) → Result B ReadFault) → and_then (value_line reads key n (line key (text x ∷ []) ∷ g ∷ gs)) next ≡ next x (n + 1) (g ∷ gs)
@@ -129,19 +134,23 @@ currency_judged n c m f fs g e =
 
 named_read : (market : MarketName) (n : ℕ) (fs : List (List ℕ)) (g : Got Rates) → sheet_named market n fs ≡ Ok g → SheetRead (market_line market ∷ fs) g
 named_read name.Share n fs g h =
-    line_read reads_natural (codes "price=") n fs _ g (λ l. SheetRead (market_line name.Share ∷ l) g) h (λ price f fs _ h.
-    line_read reads_yes (codes "reduced=") _ (f ∷ fs) _ g (λ l. SheetRead (market_line name.Share ∷ line (codes "price=") (decimal price ∷ []) ∷ l) g) h (λ reduced f fs _ h.
-    line_read reads_natural (codes "floor=") _ (f ∷ fs) _ g (λ l. SheetRead (market_line name.Share ∷ line (codes "price=") (decimal price ∷ []) ∷ line (codes "reduced=") (reduced_text reduced ∷ []) ∷ l) g) h (λ floor f fs _ h.
-    line_read reads_rate (codes "futures=") _ (f ∷ fs) _ g (λ l. SheetRead (market_line name.Share ∷ line (codes "price=") (decimal price ∷ []) ∷ line (codes "reduced=") (reduced_text reduced ∷ []) ∷ line (codes "floor=") (decimal floor ∷ []) ∷ l) g) h (λ futures f fs _ h.
-    line_read reads_rate (codes "tracking=") _ (f ∷ fs) _ g (λ l. SheetRead (market_line name.Share ∷ line (codes "price=") (decimal price ∷ []) ∷ line (codes "reduced=") (reduced_text reduced ∷ []) ∷ line (codes "floor=") (decimal floor ∷ []) ∷ line (codes "futures=") (rate_text futures ∷ []) ∷ l) g) h (λ tracking f fs _ h.
-    shares_judged _ (record { price = price; reduced = reduced; floor = floor; futures = futures; tracking = tracking }) _ f fs g h)))))
+    let price = line_read reads_natural (codes "price=") n fs _ g h in
+    let reduced = line_read reads_yes (codes "reduced=") _ (price.first ∷ price.others) _ g price.rest in
+    let floor = line_read reads_natural (codes "floor=") _ (reduced.first ∷ reduced.others) _ g reduced.rest in
+    let futures = line_read reads_rate (codes "futures=") _ (floor.first ∷ floor.others) _ g floor.rest in
+    let tracking = line_read reads_rate (codes "tracking=") _ (futures.first ∷ futures.others) _ g futures.rest in
+    subst (λ l. SheetRead (market_line name.Share ∷ l) g) (price.joined _ (reduced.joined _ (floor.joined _ (futures.joined _ (tracking.joined _ refl)))))
+    (shares_judged _ (record { price = price.value; reduced = reduced.value; floor = floor.value; futures = futures.value; tracking = tracking.value }) _ tracking.first tracking.others g tracking.rest)
 named_read name.Currency n fs g h =
-    line_read reads_natural (codes "price=") n fs _ g (λ l. SheetRead (market_line name.Currency ∷ l) g) h (λ price f fs _ h.
-    line_read reads_natural (codes "spot=") _ (f ∷ fs) _ g (λ l. SheetRead (market_line name.Currency ∷ line (codes "price=") (decimal price ∷ []) ∷ l) g) h (λ spot f fs _ h.
-    currency_judged _ (record { price = price; spot = spot }) _ f fs g h))
+    let price = line_read reads_natural (codes "price=") n fs _ g h in
+    let spot = line_read reads_natural (codes "spot=") _ (price.first ∷ price.others) _ g price.rest in
+    subst (λ l. SheetRead (market_line name.Currency ∷ l) g) (price.joined _ (spot.joined _ refl))
+    (currency_judged _ (record { price = price.value; spot = spot.value }) _ spot.first spot.others g spot.rest)
 
 sheet_read : (n : ℕ) (fs : List (List ℕ)) (g : Got Rates) → sheet_at n fs ≡ Ok g → SheetRead fs g
-sheet_read n fs g h = line_read reads_market (codes "market=") n fs sheet_named g (λ l. SheetRead l g) h (λ market f fs _ h. named_read market (n + 1) (f ∷ fs) g h)
+sheet_read n fs g h =
+    let market = line_read reads_market (codes "market=") n fs sheet_named g h in
+    subst (λ l. SheetRead l g) (market.joined _ refl) (named_read market.value (n + 1) (market.first ∷ market.others) g market.rest)
 
 -- ---- the head that was read
 
@@ -172,8 +181,8 @@ sized_read n size m fs s f false k e = absurd cc
 
 size_read : (n : ℕ) (fs : List (List ℕ)) (s : Got ℕ) → size_at n fs ≡ Ok s → SizeRead fs s
 size_read n fs s h =
-    line_read reads_natural (codes "size=") n fs (sized n) s (λ l. SizeRead l s) h (λ size g gs _ h.
-    sized_read n size (n + 1) (g ∷ gs) s _ (inside 1 1000 size) refl h)
+    let size = line_read reads_natural (codes "size=") n fs (sized n) s h in
+    subst (λ l. SizeRead l s) (size.joined _ refl) (sized_read n size.value (n + 1) (size.first ∷ size.others) s _ (inside 1 1000 size.value) refl size.rest)
 
 pub head_read : (n : ℕ) (fs : List (List ℕ)) (g : Got Head) → head_at n fs ≡ Ok g → HeadRead fs g
 head_read n fs g h = at (size_at n fs) refl h
