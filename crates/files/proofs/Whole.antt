@@ -21,7 +21,7 @@ use Rattle.reader.specs.Head.{Head, head_at}
 use Rattle.reading.specs.Body.{Body, no_body, body_from}
 use Rattle.reading.specs.Files.{Content, with_head, read_pieces, read_file}
 use Rattle.writing.specs.Texts.{size_line, sheet_lines, file_lines, file_text}
-use Rattle.files.specs.Faithful.{FileMarks, Faithful}
+use Rattle.files.specs.Faithful.{content_of, FileMarks, Faithful}
 use Rattle.files.proofs.Parts.{rejoin, each_append, ended_rejoined, split_ended}
 use Rattle.files.proofs.Heads.{in_size, HeadRead, head_read, GoodRates, good_rates, head_given, size_bytes, sheet_bytes}
 use Rattle.files.proofs.Growing.{body_of, body_lines, body_read}
@@ -100,7 +100,7 @@ content_given size r y marks k g c =
 
 read_back_lem :
     (sheet : Sheet) (size : ℕ) (y : Tally) (marks : List ℤ) → inside 1 1000 size ≡ true → Led (sheet_tables sheet) size y → FileMarks marks
-    → read_file (file_text (record { size = size; rates = rates_on sheet; tally = y; marks = marks })) ≡ Ok (record { size = size; rates = rates_on sheet; tally = y; marks = marks })
+    → read_file (file_text (content_of sheet size y marks)) ≡ Ok (content_of sheet size y marks)
 read_back_lem s size y marks k led m =
     content_given size (rates_on s) y marks k (good_rates s)
     (subst (λ (t : Tables). Comes t size no_body (body_lines (body_of y marks)) (body_of y marks)) (sheet_tables_lem s)
@@ -108,7 +108,7 @@ read_back_lem s size y marks k led m =
 
 short :
     (sheet : Sheet) (size : ℕ) (y : Tally) (marks : List ℤ) → inside 1 1000 size ≡ true → Led (sheet_tables sheet) size y → FileMarks marks
-    → length (file_text (record { size = size; rates = rates_on sheet; tally = y; marks = marks })) ≤ 65536
+    → length (file_text (content_of sheet size y marks)) ≤ 65536
 short s size y marks k led m =
     let sized = in_size size k in
     text_short (sheet_tables s) size y (replay (sheet_tables s) size y (sheet_lawful s) sized led) (rates_on s) marks sized.1 (good_rates s)
