@@ -2,6 +2,7 @@
 use Rattle.std.specs.Prelude.{ℕ, List, ◌++◌, ℤ, Some, None, Ok, Err, codes, decimal, Option, Result}
 use Rattle.std.specs.Fmt.{signed_decimal}
 use Rattle.dockets.specs.declared.Details.{Details}
+use Rattle.dockets.specs.Texts.{details_text}
 use Rattle.answers.specs.declared.FileFault.{FileFault}
 use Rattle.answers.specs.declared.Summary.{Summary}
 use Rattle.answers.specs.declared.Verdict.{Verdict}
@@ -31,11 +32,7 @@ summary_text s =
 -- the number and four details
 abbrev pub refused_text : ℕ → Details → List ℕ
 refused_text n d =
-    codes "refused=" ++ (decimal n
-    ++ (codes "," ++ (decimal d.one
-    ++ (codes "," ++ (decimal d.two
-    ++ (codes "," ++ (decimal d.three
-    ++ (codes "," ++ (decimal d.four ++ codes "\n")))))))))
+    codes "refused=" ++ (decimal n ++ (codes "," ++ (details_text d ++ codes "\n")))
 
 -- those of a refusal
 abbrev pub fault_text : FileFault → List ℕ

@@ -77,12 +77,7 @@ impl FileFault {
         ensures { result ≡ file_details self }
     {
         match self {
-            FileFault::TooLong => Details {
-                one: 0,
-                two: 0,
-                three: 0,
-                four: 0,
-            },
+            FileFault::TooLong => Details::default(),
             FileFault::Read(fault) => fault.details(),
             FileFault::Certify(refusal) => refusal.details(),
         }

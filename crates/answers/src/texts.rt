@@ -40,13 +40,7 @@ impl fmt::Display for FileFault {
     ghost output = { λ f. Some (fault_text f) };
 
     fn fmt<W: fmt::Write>(&self, f: &mut fmt::Formatter<W>) -> fmt::Result {
-        let number = self.number();
-        let details = self.details();
-        let one = details.one;
-        let two = details.two;
-        let three = details.three;
-        let four = details.four;
-        write!(f, "refused={number},{one},{two},{three},{four}\n")
+        writeln!(f, "refused={},{}", self.number(), self.details())
     }
 }
 

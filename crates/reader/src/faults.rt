@@ -92,8 +92,7 @@ impl ReadFault {
     {
         match self.fault {
             LineFault::Bad { .. } => 19,
-            LineFault::Sheet(_) => 20,
-            LineFault::Call(_) => 20,
+            LineFault::Sheet(_) | LineFault::Call(_) => 20,
         }
     }
 
@@ -106,13 +105,12 @@ impl ReadFault {
                 one: self.line,
                 two: place,
                 three: cause.number() as usize,
-                four: 0,
+                ..Details::default()
             },
             LineFault::Sheet(fault) => Details {
                 one: self.line,
                 two: fault.number() as usize,
-                three: 0,
-                four: 0,
+                ..Details::default()
             },
             LineFault::Call(refusal) => {
                 let details = refusal.details();

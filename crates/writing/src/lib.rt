@@ -49,15 +49,12 @@ impl WriteFault {
     pub fn details(self) -> Details
         ensures { result ≡ write_details self }
     {
-        let needed = match self {
-            WriteFault::Short(needed) => needed,
-            WriteFault::Memory => 0,
-        };
-        Details {
-            one: needed,
-            two: 0,
-            three: 0,
-            four: 0,
+        match self {
+            WriteFault::Short(needed) => Details {
+                one: needed,
+                ..Details::default()
+            },
+            WriteFault::Memory => Details::default(),
         }
     }
 }
