@@ -1,4 +1,4 @@
-ghost use Rattle.std.specs.Prelude.{◌≡◌};
+ghost use Rattle.std.specs.Prelude.{◌≡◌, ◌≤◌, length};
 ghost use Rattle.dockets.specs.Dockets.{tally_in};
 
 use crate::state::State;
@@ -17,6 +17,7 @@ impl<B> Docket<B> {
         ensures size { result.size ≡ self.now.state.size }
         ensures held { result.held.now ≡ (tally_in self.now.state).held }
         ensures claims { result.claims.now ≡ (tally_in self.now.state).claims }
+        ensures few { length result.held.now ≤ 32 }
     {
         Standing {
             size: self.state.size,
