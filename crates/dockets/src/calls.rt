@@ -1,4 +1,5 @@
 // The calls on a docket. Each takes its input as it is sent, with nothing checked beforehand; a refusal leaves the docket as it was.
+// `book` and `size` say in each what a call leaves as it was, which no ghost field can say.
 ghost use Rattle.std.specs.Prelude.{◌≡◌, true, false, length, Ok, Err};
 ghost use Rattle.amounts.specs.Ranges.{inside};
 ghost use Rattle.dockets.specs.Tally.{empty};
