@@ -2,7 +2,6 @@
 #![tactic(auto)]
 
 use books::Sheet;
-use certificate::Certificate;
 use examples::sample_sheet;
 use pairing::Claim;
 use positions::Entry;
@@ -59,14 +58,7 @@ fn print_call(rt: &HostRuntime, call: &Call) -> anyhow::Result<()> {
 
 fn print_reply(rt: &HostRuntime, reply: Reply) -> anyhow::Result<()> {
     match reply {
-        Ok(Granted::Entered(position)) => println!(rt; " granted={position}")?,
-        Ok(Granted::Claimed(sets)) => println!(rt; " granted={sets}")?,
-        Ok(Granted::Released(sets)) => println!(rt; " granted={sets}")?,
-        Ok(Granted::Free(units)) => println!(rt; " granted={units}")?,
-        Ok(Granted::Total(parts)) => println!(rt; " granted={parts}")?,
-        Ok(Granted::Certified(Certificate { total, floor })) => {
-            println!(rt; " granted={total},{floor}")?
-        }
+        Ok(granted) => println!(rt; " granted={granted}")?,
         Err(refusal) => println!(rt; " refused={refusal}")?,
     }
     Ok(())

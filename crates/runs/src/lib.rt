@@ -7,6 +7,8 @@ ghost use Rattle.dockets.specs.Dockets.{tally_in};
 ghost use Rattle.runs.specs.Runs.{reply_to, after, ran, replies};
 ghost use Rattle.runs.specs.Laws.{Onward, served, Ran};
 
+mod texts;
+
 use books::Book;
 use certificate::Certificate;
 use dockets::{Docket, Refusal};
