@@ -61,7 +61,7 @@ impl From<Refusal> for FileFault {
 }
 
 impl FileFault {
-    // The number by which the refusal is known.
+    // The number by which the refusal is known, which the file format fixes.
     pub fn number(self) -> u8
         ensures { result ≡ file_number self }
     {

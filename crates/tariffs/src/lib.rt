@@ -38,6 +38,7 @@ fn charged(sheet: &Sheet, size: ContractSize, held: &[Record]) -> Tariff
     requires { length held.now ≤ 32 }
     ensures { result.parts.items ≡ charges (sheet_tables sheet.now) size.units held.now }
 {
+    // A loop: collecting into an ArrayVec can fail.
     let mut parts = ArrayVec::new();
     for position in held {
         parts.push(sheet.alone(size, position));

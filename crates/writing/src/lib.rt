@@ -35,7 +35,7 @@ impl From<AllocError> for WriteFault {
 }
 
 impl WriteFault {
-    // The number by which the fault is known.
+    // The number by which the fault is known, which the file format fixes.
     pub fn number(self) -> u8
         ensures { result ≡ write_number self }
     {
