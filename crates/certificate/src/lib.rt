@@ -224,6 +224,7 @@ pub fn floor(held: &[Record], marks: &[i64]) -> i128
     requires held_len_bound { length held.now ≤ 32 }
     ensures { result ≡ floor held.now marks.now }
 {
+    // A loop, since the sum is signed and nothing says of a chain that such a sum fits.
     let mut total: i128 = 0;
     for (record, mark) in held.iter().zip(marks) {
         total += mark_times(*mark, record.quantity);
