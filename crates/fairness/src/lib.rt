@@ -115,10 +115,8 @@ impl<B: Book> Search<'_, B> {
         if !distinct(legs) {
             return None;
         }
-        let worth = self.worth(legs);
-        self.answer(article, legs)
-            .is_ok_and(|requirement| passes(worth, requirement))
-            .then_some(Breach::Set { article, legs })
+        let requirement = self.answer(article, legs).ok()?;
+        passes(self.worth(legs), requirement).then_some(Breach::Set { article, legs })
     }
 
     // The first breach with the legs before given.
