@@ -5,9 +5,6 @@ use Rattle.writing.specs.Texts.{ended}
 use Rattle.writing.proofs.Forms.{printed_line}
 use Rattle.writing.proofs.lines.lines.Goals as goal
 
-pub loop-item-init : goal.loop-item-init
-loop-item-init g c = λ text p. search rules
-
 pub loop-item-preserved : goal.loop-item-preserved
 loop-item-preserved g c = λ text p.
     let f : g.row.T.Denot → List ℕ = λ x. ended (c.args.key.now ++ text x) in
