@@ -12,7 +12,7 @@ pub use figures::answer_to;
 use reader::faults::ReadFault;
 
 // Why a file is refused: it is too long, it cannot be read, or its marks are not certified.
-#[derive(Clone, Copy)]
+#[derive(Clone, Copy, Debug, PartialEq, Eq)]
 pub enum FileFault {
     TooLong,
     Read(ReadFault),
@@ -20,7 +20,7 @@ pub enum FileFault {
 }
 
 // Positions held, lines standing, the total in parts, and the floor of the marks where there are marks.
-#[derive(Clone, Copy)]
+#[derive(Clone, Copy, Debug, PartialEq, Eq)]
 pub struct Summary {
     pub positions: usize,
     pub claims: usize,
@@ -29,7 +29,7 @@ pub struct Summary {
 }
 
 // What the floor says of the total: it meets it, it lies under it, or there is none.
-#[derive(Clone, Copy)]
+#[derive(Clone, Copy, Debug, PartialEq, Eq)]
 pub enum Verdict {
     Least,
     Gap,

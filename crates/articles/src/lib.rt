@@ -16,7 +16,7 @@ pub use legs::{ConversionLegs, conversion, protective_put, receipt_call, spread,
 use market::MarketFault;
 
 // The articles by name.
-#[derive(Clone, Copy)]
+#[derive(Clone, Copy, Debug, PartialEq, Eq)]
 pub enum Article {
     CallSpread,
     PutSpread,
@@ -28,7 +28,7 @@ pub enum Article {
 }
 
 // A leg of a set, in the article's order.
-#[derive(Clone, Copy)]
+#[derive(Clone, Copy, Debug, PartialEq, Eq)]
 pub enum Leg {
     First = 1,
     Second,
@@ -36,7 +36,7 @@ pub enum Leg {
 }
 
 // Why an article refuses a set.
-#[derive(Clone, Copy)]
+#[derive(Clone, Copy, Debug, PartialEq, Eq)]
 pub enum ArticleFault {
     WrongLeg(Leg),
     WrongDays(Leg),

@@ -14,7 +14,7 @@ pub use sheets::Sheet;
 
 // Why a book refuses a set: a cause from 1 to 255, and the leg that it names, if it names one.
 // The cause is a number, since any book may have causes of its own.
-#[derive(Clone, Copy)]
+#[derive(Clone, Copy, Debug, PartialEq, Eq)]
 pub struct BookFault {
     pub cause: u8,
     pub leg: Option<Leg>,

@@ -114,7 +114,7 @@ impl Listed for CurrencySheet {
 }
 
 // Either sheet. A docket keeps one type of book, so this is one too, and each answer is its sheet's.
-#[derive(Clone, Copy)]
+#[derive(Clone, Copy, Debug, PartialEq, Eq)]
 pub enum Sheet {
     Share(ShareSheet),
     Currency(CurrencySheet),

@@ -25,27 +25,6 @@ pub or_some : {X : Type 0} (r o : Option X) (b : X) → option_or r o ≡ Some b
 or_some (Some x) o b h = inl h
 or_some None o b h = inr (refl, h)
 
--- a loop over 0..n that asks f at j + 1
-module _ {X : Type 0} (f : ℕ → Option X) (n j : ℕ) (r : Option X) (h : j < n) (e : r ≡ f (j + 1)) where
-  opened : first_of f (j + 1) (n - j) ≡ option_or r (first_of f (j + 1 + 1) (n - (j + 1)))
-  opened =
-      let more : n - j ≡ suc (n - (j + 1)) = omega arith in
-      ap (first_of f (j + 1)) more ∙ ap (λ o. option_or o (first_of f (j + 1 + 1) (n - (j + 1)))) (sym e)
-
-  stays : (o : Option X) → is_some o ≡ true → (z : Option X) → o ≡ option_or o z
-  stays (Some x) s z = refl
-  stays None s z = cc
-
-  goes : (o : Option X) → is_some o ≡ false → (z : Option X) → option_or o z ≡ z
-  goes (Some x) s z = cc
-  goes None s z = refl
-
-  pub hit : is_some r ≡ true → r ≡ first_of f (j + 1) (n - j)
-  hit s = stays r s _ ∙ sym opened
-
-  pub miss : is_some r ≡ false → first_of f (j + 1) (n - j) ≡ first_of f (j + 1 + 1) (n - (j + 1))
-  miss s = opened ∙ goes r s _
-
 -- where nothing is found, f answers nothing anywhere
 pub none_found : {X : Type 0} (f : ℕ → Option X) (i k : ℕ) → first_of f i k ≡ None → (p : ℕ) → i ≤ p → p < i + k → f p ≡ None
 none_found f i zero e p low high = absurd (let w : ⊥ = omega arith in w)

@@ -2,7 +2,7 @@
 #![tactic(auto)]
 
 // The positions that are the legs of a set: two, or three.
-#[derive(Clone, Copy)]
+#[derive(Clone, Copy, Debug, PartialEq, Eq)]
 pub struct Legs {
     pub first: u8,
     pub second: u8,
@@ -10,7 +10,7 @@ pub struct Legs {
 }
 
 // A position alone, or an article with its legs.
-#[derive(Clone, Copy)]
+#[derive(Clone, Copy, Debug, PartialEq, Eq)]
 pub enum Breach {
     Alone { position: u8 },
     Set { article: u8, legs: Legs },

@@ -15,17 +15,17 @@ use books::{Book, BookFault};
 use breaches::Breach;
 use fairness::first_breach;
 use pairing::{Claim, mark_times, set_takes};
-use positions::{Kind, Record, Side};
+use positions::{Kind, Record};
 
 // The whole requirement, and a floor under every lawful pairing, in parts.
-#[derive(Clone, Copy)]
+#[derive(Clone, Copy, Debug, PartialEq, Eq)]
 pub struct Certificate {
     pub total: u128,
     pub floor: i128,
 }
 
 // Marks not one for each position; a mark beyond its limit (its position); marks that are not fair (the first breach).
-#[derive(Clone, Copy)]
+#[derive(Clone, Copy, Debug, PartialEq, Eq)]
 pub enum CertifyFault {
     NotOneEach { given: usize, held: usize },
     BeyondLimit(usize),
@@ -38,14 +38,7 @@ pub fn at(held: &[Record], p: u64) -> Record
 {
     held.get(p.saturating_sub(1) as usize)
         .copied()
-        .unwrap_or(Record {
-            side: Side::Long,
-            kind: Kind::Units,
-            strike: 0,
-            days: 0,
-            price: 0,
-            quantity: 0,
-        })
+        .unwrap_or_default()
 }
 
 // So many of each.

@@ -20,7 +20,7 @@ pub use docket::Docket;
 use positions::{Field, RecordFault};
 
 // Why a call is refused.
-#[derive(Clone, Copy)]
+#[derive(Clone, Copy, Debug, PartialEq, Eq)]
 pub enum Refusal {
     SizeOutOfRange,
     FieldOutOfRange(Field),
@@ -42,7 +42,7 @@ pub enum Refusal {
 }
 
 // What is returned with a refusal's number; a detail that it has not is 0.
-#[derive(Clone, Copy, Default)]
+#[derive(Clone, Copy, Debug, Default, PartialEq, Eq)]
 pub struct Details {
     pub one: usize,
     pub two: usize,
@@ -87,7 +87,7 @@ impl From<CertifyFault> for Refusal {
 }
 
 impl Refusal {
-    // The number by which the refusal is known.
+    // The number by which the refusal is known, which the file format fixes.
     pub fn number(self) -> u8
         ensures { result ≡ refusal_number self }
     {

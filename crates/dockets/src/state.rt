@@ -15,6 +15,7 @@ pub(crate) struct State {
 }
 
 impl State {
+    // A function for each vector: what they hold are two types.
     pub(crate) fn positions(&self) -> &[Record]
         ensures items { result.now ≡ self.now.held.items }
         ensures few { length result.now ≤ 32 }

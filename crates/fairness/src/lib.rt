@@ -42,7 +42,7 @@ fn distinct(legs: Legs) -> bool
 }
 
 impl<B: Book> Search<'_, B> {
-    // The number of positions; they are numbered from 1.
+    // The number of positions; they are numbered from 1. At most 32, so the cast loses nothing.
     fn positions(&self) -> u8
         ensures { result ≡ length self.now.held.now }
     {
@@ -76,7 +76,7 @@ impl<B: Book> Search<'_, B> {
         )
     }
 
-    // The marks of what a set takes.
+    // The marks of what a set takes. Two legs or three: a sum over a list of them would need a bound of its own.
     fn worth(&self, legs: Legs) -> i128
         requires { Positions self.now.held.now (legs_in legs) }
         ensures { result ≡ worth self.now.size.units self.now.held.now self.now.marks.now (legs_in legs) }
@@ -88,7 +88,7 @@ impl<B: Book> Search<'_, B> {
         }
     }
 
-    // What the book requires of a set.
+    // What the book requires of a set, whose legs it is asked for as one slice of two or of three.
     fn answer(&self, article: u8, legs: Legs) -> Result<u64, BookFault>
         requires has { Has (B.Book.tables self.now.book.now) article }
         requires whole { length (legs_in legs) ≡ (B.Book.tables self.now.book.now).legs article }

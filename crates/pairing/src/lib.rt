@@ -13,7 +13,7 @@ use positions::Kind;
 
 // A claim: an article, its legs by the numbers of their positions, the third 0 where the article has two, and a number of sets.
 // The fields are the numbers that a call sends and a file keeps, with nothing checked.
-#[derive(Clone, Copy, Default)]
+#[derive(Clone, Copy, Debug, Default, PartialEq, Eq)]
 pub struct Claim {
     pub article: u64,
     pub first: u64,

@@ -80,7 +80,7 @@ impl Field {
 }
 
 impl RecordFault {
-    // The number by which the refusal is known.
+    // The number by which the refusal is known: a match, since the fault holds a field.
     pub fn number(self) -> u8
         ensures { result ≡ refusal_number self }
     {
@@ -160,7 +160,7 @@ pub fn price_range(kind: Kind) -> Range
 }
 
 impl Side {
-    // The other side.
+    // The other side; a `!` would say less.
     pub fn opposite(self) -> Side
         ensures { result ≡ other_side self }
     {

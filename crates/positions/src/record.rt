@@ -5,7 +5,7 @@ use crate::{Kind, Side};
 
 // A record in range: what is held, and how much of it.
 // Strike and price are cents a unit; the price of an option is its premium, that of futures the daily settlement.
-#[derive(Clone, Copy)]
+#[derive(Clone, Copy, Debug, PartialEq, Eq)]
 pub struct Record {
     pub side: Side,
     pub kind: Kind,

@@ -16,7 +16,7 @@ pub enum LineCause {
 }
 
 // What is wrong with a line: it is bad at a place, or the sheet or the call that it ends or stands for is refused.
-#[derive(Clone, Copy)]
+#[derive(Clone, Copy, Debug, PartialEq, Eq)]
 pub enum LineFault {
     Bad { place: usize, cause: LineCause },
     Sheet(SheetFault),
@@ -24,7 +24,7 @@ pub enum LineFault {
 }
 
 // The line, from 1, and what is wrong with it.
-#[derive(Clone, Copy)]
+#[derive(Clone, Copy, Debug, PartialEq, Eq)]
 pub struct ReadFault {
     pub line: usize,
     pub fault: LineFault,
@@ -42,7 +42,9 @@ impl From<LineCause> for LineFault {
 impl From<BadField> for LineFault {
     ghost from_gives = { λ x y. y ≡ from_field x };
 
-    fn from(value: BadField) -> LineFault {
+    fn from(value: BadField) -> LineFault
+        ensures { result ≡ from_field value }
+    {
         LineFault::Bad {
             place: value.place,
             cause: LineCause::IllFormed,
@@ -53,7 +55,9 @@ impl From<BadField> for LineFault {
 impl From<SheetFault> for LineFault {
     ghost from_gives = { λ x y. y ≡ from_sheet x };
 
-    fn from(value: SheetFault) -> LineFault {
+    fn from(value: SheetFault) -> LineFault
+        ensures { result ≡ from_sheet value }
+    {
         LineFault::Sheet(value)
     }
 }
@@ -61,7 +65,9 @@ impl From<SheetFault> for LineFault {
 impl From<Refusal> for LineFault {
     ghost from_gives = { λ x y. y ≡ from_call x };
 
-    fn from(value: Refusal) -> LineFault {
+    fn from(value: Refusal) -> LineFault
+        ensures { result ≡ from_call value }
+    {
         LineFault::Call(value)
     }
 }
@@ -86,7 +92,7 @@ impl ReadFault {
         }
     }
 
-    // The number by which the refusal is known.
+    // The number by which the refusal is known, which the file format fixes.
     pub fn number(self) -> u8
         ensures { result ≡ fault_number self.fault }
     {

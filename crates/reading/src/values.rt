@@ -1,4 +1,4 @@
-// The values of pos and claim lines, field by field.
+// The values of pos and claim lines, field by field: a function for each, since they make different records.
 ghost use Rattle.std.specs.Prelude.{◌≡◌};
 ghost use Rattle.text.specs.Fields.{split};
 ghost use Rattle.reading.specs.Values.{entry_at, claim_at};

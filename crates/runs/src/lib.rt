@@ -27,7 +27,7 @@ pub enum Call<'a> {
 }
 
 // What a call is granted.
-#[derive(Clone, Copy)]
+#[derive(Clone, Copy, Debug, PartialEq, Eq)]
 pub enum Granted {
     Entered(usize),
     Claimed(u64),

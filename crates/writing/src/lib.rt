@@ -18,7 +18,7 @@ use sheet::sheet_lines;
 use std::alloc::{AllocError, Global};
 
 // Why nothing was written: the buffer is too short for the text, which needs so many bytes, or there is no memory to write it in.
-#[derive(Clone, Copy)]
+#[derive(Clone, Copy, Debug, PartialEq, Eq)]
 pub enum WriteFault {
     Short(usize),
     Memory,
