@@ -1,7 +1,7 @@
 // The tariff: what one unit or contract of each position of a file requires alone.
 #![tactic(auto)]
 
-ghost use Rattle.std.specs.Prelude.{◌≡◌, ◌≤◌, length, Some};
+ghost use Rattle.std.specs.Prelude.{◌≡◌, ◌≤◌, length, IfOk, Some};
 ghost use Rattle.std.specs.Result.{result_map_both};
 ghost use Rattle.books.specs.Books.{sheet_tables};
 ghost use Rattle.tariffs.specs.Tariffs.{charges, tariff_of, charges_text};
@@ -36,7 +36,8 @@ impl fmt::Display for Tariff {
 // What each of some positions requires alone.
 fn charged(sheet: &Sheet, size: ContractSize, held: &[Record]) -> Tariff
     requires { length held.now ≤ 32 }
-    ensures { result.parts.items ≡ charges (sheet_tables sheet.now) size.units held.now }
+    ensures parts { result.parts.items ≡ charges (sheet_tables sheet.now) size.units held.now }
+    ensures few { length result.parts.items ≤ 32 }
 {
     // A loop: collecting into an ArrayVec can fail.
     let mut parts = ArrayVec::new();
@@ -48,7 +49,8 @@ fn charged(sheet: &Sheet, size: ContractSize, held: &[Record]) -> Tariff
 
 // What each position of a file requires alone, or why the file is refused; its length is tested first.
 pub fn tariff_of(file: &[u8]) -> Result<Tariff, FileFault>
-    ensures { result_map_both (λ t. t.parts.items) (λ e. e) result ≡ tariff_of file.now }
+    ensures parts { result_map_both (λ t. t.parts.items) (λ e. e) result ≡ tariff_of file.now }
+    ensures few { IfOk result (λ t. length t.parts.items ≤ 32) }
 {
     // The same test as in answers: a function for both would be no shorter.
     if file.len() > 65_536 {
