@@ -22,13 +22,27 @@ pub fn set_requirement<M: Market>(
         (Article::Straddle, [call, put]) => straddle(contract, call, put),
         (Article::ProtectivePut, [put, units]) => protective_put(contract, put, units),
         (Article::Conversion, [put, call, futures]) => {
-            conversion(contract, Side::Long, &ConversionLegs { put, call, futures })
-        }
-        (Article::Reconversion, [put, call, futures]) => {
+            let side = Side::Long;
             conversion(
                 contract,
-                Side::Short,
-                &ConversionLegs { put, call, futures },
+                &ConversionLegs {
+                    side,
+                    put,
+                    call,
+                    futures,
+                },
+            )
+        }
+        (Article::Reconversion, [put, call, futures]) => {
+            let side = Side::Short;
+            conversion(
+                contract,
+                &ConversionLegs {
+                    side,
+                    put,
+                    call,
+                    futures,
+                },
             )
         }
         (Article::ReceiptCall, [call, receipt]) => receipt_call(call, receipt),

@@ -59,25 +59,22 @@ pub fn protective_put<M: Market>(
     Ok(protective_put_amount(contract, put))
 }
 
-// The legs of a conversion and of a reconversion.
+// The legs of a conversion or of a reconversion, with the side of its put and of its futures.
 #[derive(Clone, Copy)]
 pub struct ConversionLegs<'a> {
+    pub side: Side,
     pub put: &'a Record,
     pub call: &'a Record,
     pub futures: &'a Record,
 }
 
 // Put and futures of one side, the call of the other, all days equal; and the tracked amount of a unit.
-fn aligned_legs<M: Market>(
-    market: &M,
-    side: Side,
-    legs: &ConversionLegs,
-) -> Result<UnitAmount, ArticleFault>
-    ensures { result_map_both parts_in (λ f. f) result ≡ aligned (M.Market.quote market.now) side (terms legs.now.put.now) (terms legs.now.call.now) (terms legs.now.futures.now) }
+fn aligned_legs<M: Market>(market: &M, legs: &ConversionLegs) -> Result<UnitAmount, ArticleFault>
+    ensures { result_map_both parts_in (λ f. f) result ≡ aligned (M.Market.quote market.now) legs.now.side (terms legs.now.put.now) (terms legs.now.call.now) (terms legs.now.futures.now) }
 {
-    leg_is(Leg::First, side, Kind::Put, legs.put)?;
-    leg_is(Leg::Second, side.opposite(), Kind::Call, legs.call)?;
-    leg_is(Leg::Third, side, Kind::Futures, legs.futures)?;
+    leg_is(Leg::First, legs.side, Kind::Put, legs.put)?;
+    leg_is(Leg::Second, legs.side.opposite(), Kind::Call, legs.call)?;
+    leg_is(Leg::Third, legs.side, Kind::Futures, legs.futures)?;
     same_days(legs.put, legs.call, legs.futures)?;
     tracked_amount(market)
 }
@@ -85,13 +82,12 @@ fn aligned_legs<M: Market>(
 // 5 and 6 of the share book. Put and futures long, the call short, is a conversion; put and futures short, the call long, a reconversion; days equal.
 pub fn conversion<M: Market>(
     contract: &Contract<M>,
-    side: Side,
     legs: &ConversionLegs,
 ) -> Result<u64, ArticleFault>
-    ensures { result ≡ converted (M.Market.quote contract.now.market.now) contract.now.size.units side (terms legs.now.put.now) (terms legs.now.call.now) (terms legs.now.futures.now) }
+    ensures { result ≡ converted (M.Market.quote contract.now.market.now) contract.now.size.units legs.now.side (terms legs.now.put.now) (terms legs.now.call.now) (terms legs.now.futures.now) }
 {
-    let tracked = aligned_legs(contract.market, side, legs)?;
-    Ok(conversion_amount(contract.size, tracked, side, legs))
+    let tracked = aligned_legs(contract.market, legs)?;
+    Ok(conversion_amount(contract.size, tracked, legs))
 }
 
 // 5 of the currency book. A call on an escrow receipt: short call, receipt; nothing is required.

@@ -68,15 +68,15 @@ fn sum(a: Cents, b: Cents) -> UnitAmount
 }
 
 // A conversion, of the long side, and a reconversion, of the short one: the greater of the tracked amount and a difference, which may be negative.
-pub fn conversion_amount(
-    size: ContractSize,
-    tracked: UnitAmount,
-    side: Side,
-    legs: &ConversionLegs,
-) -> u64
-    ensures { pos result ≡ converted_amount size.units tracked.parts side (terms legs.now.put.now) (terms legs.now.call.now) (terms legs.now.futures.now) }
+pub fn conversion_amount(size: ContractSize, tracked: UnitAmount, legs: &ConversionLegs) -> u64
+    ensures { pos result ≡ converted_amount size.units tracked.parts legs.now.side (terms legs.now.put.now) (terms legs.now.call.now) (terms legs.now.futures.now) }
 {
-    let ConversionLegs { put, call, futures } = *legs;
+    let ConversionLegs {
+        side,
+        put,
+        call,
+        futures,
+    } = *legs;
     let lesser = Cents {
         amount: put.strike_cents().amount.min(call.strike_cents().amount),
     };
@@ -95,5 +95,6 @@ pub fn conversion_amount(
             sum(futures.price_cents(), put.price_cents()),
         ),
     };
+    // The first cast is of at most 10,000,000,000,000; the second is of no less than that product, so not below 0.
     difference.max(size.times(tracked) as i64) as u64
 }
