@@ -14,6 +14,7 @@ impl Cents {
     pub fn new(amount: u64) -> Option<Cents>
         ensures { option_map (λ (c : Cents). c.amount) result ≡ within 0 500000 amount }
     {
+        // At most 500,000, so the cast loses nothing.
         Some(Cents {
             amount: crate::within(0, 500_000, amount)? as u32,
         })

@@ -15,6 +15,7 @@ impl ContractSize {
     pub fn new(units: u64) -> Option<ContractSize>
         ensures { option_map (λ (c : ContractSize). c.units) result ≡ within 1 1000 units }
     {
+        // At most 1,000, so the cast loses nothing.
         Some(ContractSize {
             units: crate::within(1, 1_000, units)? as u16,
         })

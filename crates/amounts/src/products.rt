@@ -11,7 +11,7 @@ impl Cents {
         ensures value { result ≡ self.amount * 10000 }
         ensures bound { result ≤ 5000000000 }
     {
-        self.amount as u64 * 10_000
+        u64::from(self.amount) * 10_000
     }
 }
 
@@ -21,7 +21,7 @@ impl Rate {
         ensures value { result ≡ self.basis_points * cents.amount }
         ensures bound { result ≤ 5000000000 }
     {
-        self.basis_points as u64 * cents.amount as u64
+        u64::from(self.basis_points) * u64::from(cents.amount)
     }
 }
 
@@ -31,7 +31,7 @@ impl ContractSize {
         ensures value { result ≡ self.units * unit.parts }
         ensures bound { result ≤ 10000000000000 }
     {
-        self.units as u64 * unit.parts
+        u64::from(self.units) * unit.parts
     }
 
     // The difference of two amounts of each unit, for a whole contract: signed, and exact below zero.
@@ -39,6 +39,7 @@ impl ContractSize {
         ensures value { result ≡ pos self.units *ℤ (pos up.parts -ℤ pos down.parts) }
         ensures bound { unsigned_abs result ≤ 10000000000000 }
     {
+        // Each product is at most 10,000,000,000,000, so the casts lose nothing.
         self.times(up) as i64 - self.times(down) as i64
     }
 }

@@ -14,6 +14,7 @@ impl Rate {
     pub fn new(basis_points: u64) -> Option<Rate>
         ensures { option_map (λ (c : Rate). c.basis_points) result ≡ within 0 10000 basis_points }
     {
+        // At most 10,000, so the cast loses nothing.
         Some(Rate {
             basis_points: crate::within(0, 10_000, basis_points)? as u16,
         })

@@ -22,11 +22,10 @@ pub fn set_requirement<M: Market>(
         (Article::Straddle, [call, put]) => straddle(contract, call, put),
         (Article::ProtectivePut, [put, units]) => protective_put(contract, put, units),
         (Article::Conversion, [put, call, futures]) => {
-            let side = Side::Long;
             conversion(
                 contract,
                 &ConversionLegs {
-                    side,
+                    side: Side::Long,
                     put,
                     call,
                     futures,
@@ -34,11 +33,10 @@ pub fn set_requirement<M: Market>(
             )
         }
         (Article::Reconversion, [put, call, futures]) => {
-            let side = Side::Short;
             conversion(
                 contract,
                 &ConversionLegs {
-                    side,
+                    side: Side::Short,
                     put,
                     call,
                     futures,

@@ -47,7 +47,7 @@ fn article_of<M: Listed>(market: &M, number: u8) -> Article
     requires { (1 ≤ number) × (number ≤ M.count) }
     ensures { result ≡ M.numbered number }
 {
-    market.listed()[number as usize - 1]
+    market.listed()[usize::from(number) - 1]
 }
 
 impl<M: Listed> Book for M {
@@ -56,6 +56,7 @@ impl<M: Listed> Book for M {
     ghost lawful = { λ m. lawful_over M.count M.numbered (M.Market.quote m) M.few.0 M.few.1 (M.Market.limits m) };
 
     fn articles(&self) -> u8 {
+        // At most 16, so the cast loses nothing.
         self.listed().len() as u8
     }
 

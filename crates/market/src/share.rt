@@ -14,7 +14,7 @@ impl ShareSheet {
         ensures rate { result.long_rate.basis_points ≡ (row_at self.now.price.amount self.now.reduced).long_rate }
         ensures short { result.short.parts ≡ (row_at self.now.price.amount self.now.reduced).short }
     {
-        let cents = self.price.amount as u64;
+        let cents = u64::from(self.price.amount);
         let (basis_points, parts) = match self.price.amount {
             200.. if self.reduced => (3_000, 13_000 * cents),
             200.. => (5_000, 15_000 * cents),

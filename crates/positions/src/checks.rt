@@ -13,10 +13,11 @@ use amounts::{Cents, ContractSize};
 pub fn quantity_range(size: ContractSize, kind: Kind) -> Range
     ensures value { result ≡ quantity_range size.units kind }
     ensures some { 1 ≤ result.low }
+    // A number of its own, the highest quantity.
     ensures bound { result.high ≤ 5000000 }
 {
     match kind {
-        Kind::Units => from_to(1, 5_000 * size.units as u64),
+        Kind::Units => from_to(1, 5_000 * u64::from(size.units)),
         Kind::Call | Kind::Put | Kind::Futures | Kind::Receipt => from_to(1, 5_000),
     }
 }
@@ -77,6 +78,7 @@ impl Record {
         let side = Side::try_from(entry.side)?;
         let kind = kind_for(side, entry.kind)?;
         judge(size, entry, kind)?;
+        // Each number is in its range, so the casts lose nothing.
         Ok(Record {
             side,
             kind,

@@ -128,6 +128,7 @@ fn from_to(low: u64, high: u64) -> Range
 // A strike, in cents a unit: options have one.
 pub fn strike_range(kind: Kind) -> Range
     ensures value { result ≡ strike_range kind }
+    // A number of its own, the highest strike.
     ensures bound { result.high ≤ 500000 }
 {
     match kind {
@@ -139,6 +140,7 @@ pub fn strike_range(kind: Kind) -> Range
 // The days to expiry: options and futures expire.
 pub fn day_range(kind: Kind) -> Range
     ensures value { result ≡ day_range kind }
+    // A number of its own, the most days.
     ensures bound { result.high ≤ 4000 }
 {
     match kind {
@@ -150,6 +152,7 @@ pub fn day_range(kind: Kind) -> Range
 // A price, in cents a unit: an option's premium, or the daily settlement of futures.
 pub fn price_range(kind: Kind) -> Range
     ensures value { result ≡ price_range kind }
+    // A number of its own, the highest price.
     ensures bound { result.high ≤ 500000 }
 {
     match kind {

@@ -6,28 +6,23 @@ use crate::record::Record;
 use crate::{Kind, Side};
 use std::fmt;
 
+// By its letter.
 impl fmt::Display for Side {
     ghost output = { λ s. Some (side_text s) };
 
     fn fmt<W: fmt::Write>(&self, f: &mut fmt::Formatter<W>) -> fmt::Result {
-        f.write_str(match self {
-            Side::Long => "L",
-            Side::Short => "S",
-        })
+        let side = char::from(*self);
+        write!(f, "{side}")
     }
 }
 
+// By its letter.
 impl fmt::Display for Kind {
     ghost output = { λ k. Some (kind_text k) };
 
     fn fmt<W: fmt::Write>(&self, f: &mut fmt::Formatter<W>) -> fmt::Result {
-        f.write_str(match self {
-            Kind::Units => "U",
-            Kind::Call => "C",
-            Kind::Put => "P",
-            Kind::Futures => "F",
-            Kind::Receipt => "R",
-        })
+        let kind = char::from(*self);
+        write!(f, "{kind}")
     }
 }
 

@@ -45,7 +45,7 @@ fn print_set(
 ) -> anyhow::Result<()> {
     let legs = records(rt.alloc(), sample_size(), entries)?;
     let has = (1..=book.articles()).contains(&article);
-    if !has || legs.len() != book.legs(article) as usize {
+    if !has || legs.len() != usize::from(book.legs(article)) {
         println!(rt; "{article}: {what}: no such set")?;
         return Ok(());
     }

@@ -80,7 +80,7 @@ pub fn counted_time_value(time_value: Cents, days: u16) -> u64
     ensures bound { result ≤ 5000000000 }
 {
     if days >= 270 {
-        time_value.amount as u64 * 5_000
+        u64::from(time_value.amount) * 5_000
     } else {
         time_value.parts()
     }
@@ -139,6 +139,7 @@ impl<M: Market> Contract<'_, M> {
         ensures floored { floor_amount (M.Market.quote self.now.market.now) self.now.size.units right (terms option.now) ≤ result }
     {
         let first = self.before_floor(right, option);
+        // The first cast is of at most 10,000,000,000,000; the second is of no less than that amount, so not below 0.
         let second = self.floor_amount(right, option) as i64;
         first.max(second) as u64
     }

@@ -93,7 +93,7 @@ fn print_letters(rt: &HostRuntime, size: ContractSize) -> anyhow::Result<()> {
 
 fn print_records(rt: &HostRuntime, size: ContractSize) -> anyhow::Result<()> {
     println!(rt; "contracts of {}", size.units)?;
-    let units = 5_000 * size.units as u64;
+    let units = 5_000 * u64::from(size.units);
     for (side, kind, most) in [
         ('S', 'U', units),
         ('L', 'C', 5_000),

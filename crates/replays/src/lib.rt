@@ -16,9 +16,9 @@ pub fn entry_of(record: &Record) -> Entry
     Entry {
         side: char::from(record.side),
         kind: char::from(record.kind),
-        strike: record.strike as u64,
-        days: record.days as u64,
-        price: record.price as u64,
-        quantity: record.quantity as u64,
+        strike: u64::from(record.strike),
+        days: u64::from(record.days),
+        price: u64::from(record.price),
+        quantity: u64::from(record.quantity),
     }
 }
