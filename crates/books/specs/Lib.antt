@@ -1,4 +1,5 @@
 pub mod Tables
+pub mod Texts
 pub mod Books
 pub mod Lawful
 pub mod Amounts

@@ -1,9 +1,10 @@
 // A book as a docket knows it: four tables that never change, and a question for each.
 #![tactic(auto)]
 
-ghost use Rattle.std.specs.Prelude.{◌≡◌, ◌≤◌, length};
+ghost use Rattle.std.specs.Prelude.{◌≡◌, ◌≤◌, length, Some};
 ghost use Rattle.articles.specs.Causes.{leg_or_zero};
 ghost use Rattle.books.specs.Tables.{Tables, Has, Lawful};
+ghost use Rattle.books.specs.Texts.{fault_text};
 
 mod sheets;
 
@@ -11,6 +12,8 @@ use amounts::ContractSize;
 use articles::Leg;
 use positions::Record;
 pub use sheets::Sheet;
+use std::error::Error;
+use std::fmt;
 
 // Why a book refuses a set: a cause from 1 to 255, and the leg that it names, if it names one.
 // The cause is a number, since any book may have causes of its own.
@@ -30,7 +33,24 @@ impl BookFault {
     }
 }
 
+// The cause, and the number of the leg.
+impl fmt::Display for BookFault {
+    ghost output = { λ f. Some (fault_text f) };
+
+    fn fmt<W: fmt::Write>(&self, f: &mut fmt::Formatter<W>) -> fmt::Result {
+        write!(
+            f,
+            "refused by cause {}, leg {}",
+            self.cause,
+            self.leg_number()
+        )
+    }
+}
+
+impl Error for BookFault {}
+
 // Anything that keeps four such tables is a book.
+// Articles are asked by number, since the interface numbers the articles of any book from 1.
 pub trait Book {
     ghost tables: { Self → Tables };
 

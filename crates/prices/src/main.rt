@@ -51,11 +51,7 @@ fn print_set(
     }
     match book.paired(sample_size(), article, legs.as_slice()) {
         Ok(parts) => println!(rt; "{article}: {what}: {parts}")?,
-        Err(fault) => println!(rt;
-            "{article}: {what}: refused by cause {}, leg {}",
-            fault.cause,
-            fault.leg_number()
-        )?,
+        Err(fault) => println!(rt; "{article}: {what}: {fault}")?,
     }
     Ok(())
 }
