@@ -18,29 +18,6 @@ fn least(side: char, kind: char) -> Entry {
     }
 }
 
-// An entry with one of its numbers replaced; its letters stay.
-fn with(entry: Entry, field: Field, value: u64) -> Entry {
-    match field {
-        Field::Side | Field::Kind => entry,
-        Field::Strike => Entry {
-            strike: value,
-            ..entry
-        },
-        Field::Days => Entry {
-            days: value,
-            ..entry
-        },
-        Field::Price => Entry {
-            price: value,
-            ..entry
-        },
-        Field::Quantity => Entry {
-            quantity: value,
-            ..entry
-        },
-    }
-}
-
 // Prints that a value was made, or why not.
 fn print_made<T: Drop, E: Display + Drop>(
     rt: &HostRuntime,
@@ -53,31 +30,50 @@ fn print_made<T: Drop, E: Display + Drop>(
     Ok(())
 }
 
-fn print_numbers(
+// Tries the entry that `with` makes of each number, which is the field's.
+fn print_numbers<F: Fn(u64) -> Entry + Drop>(
     rt: &HostRuntime,
     size: ContractSize,
-    entry: Entry,
     field: Field,
     values: &[u64],
-) -> anyhow::Result<()> {
+    with: F,
+) -> anyhow::Result<()>
+    requires { F.IsAlwaysCallable with }
+{
     for &value in values {
+        let entry = with(value);
         print!(rt; "{} field {} at {value}:", entry.kind, field.number())?;
-        print_made(rt, Record::new(size, &with(entry, field, value)))?;
+        print_made(rt, Record::new(size, &entry))?;
     }
     Ok(())
 }
 
 // The four numbers of an entry that is in range as it stands.
 fn print_kind(rt: &HostRuntime, size: ContractSize, entry: Entry, most: u64) -> anyhow::Result<()> {
-    print_numbers(rt, size, entry, Field::Strike, &[0, 1, 500_000, 500_001])?;
-    print_numbers(rt, size, entry, Field::Days, &[0, 1, 4_000, 4_001])?;
-    print_numbers(rt, size, entry, Field::Price, &[0, 1, 500_000, 500_001])?;
+    let cents = [0, 1, 500_000, 500_001];
+    let days = [0, 1, 4_000, 4_001];
+    let quantities = [0, 1, most, most.saturating_add(1), 999_999_999_999_999];
     print_numbers(
         rt,
         size,
-        entry,
+        Field::Strike,
+        &cents,
+        |strike| Entry { strike, ..entry },
+    )?;
+    print_numbers(rt, size, Field::Days, &days, |days| Entry { days, ..entry })?;
+    print_numbers(
+        rt,
+        size,
+        Field::Price,
+        &cents,
+        |price| Entry { price, ..entry },
+    )?;
+    print_numbers(
+        rt,
+        size,
         Field::Quantity,
-        &[0, 1, most, most.saturating_add(1), 999_999_999_999_999],
+        &quantities,
+        |quantity| Entry { quantity, ..entry },
     )
 }
 
