@@ -10,12 +10,12 @@ ghost use Rattle.breaches.specs.First.{First};
 use amounts::ContractSize;
 use books::{Book, BookFault};
 use breaches::{Breach, Legs};
-use pairing::{mark_times, set_takes};
+use pairing::{at, lot, mark_times};
 use positions::Record;
 
 // The positions held, at most 32, with a mark for each, over a book and a contract size.
 #[derive(Drop)]
-struct Search<'a, B> {
+struct Search<'a, B: Book> {
     book: &'a B,
     size: ContractSize,
     held: &'a [Record],
@@ -50,127 +50,61 @@ impl<B: Book> Search<'_, B> {
     }
 
     fn record(&self, position: u8) -> Record
-        requires { Position self.now.held.now position }
         ensures { result ≡ at self.now.held.now position }
     {
-        self.held[usize::from(position) - 1]
+        at(self.held, u64::from(position))
     }
 
+    // The mark of a position, or 0.
     fn mark(&self, position: u8) -> i64
-        requires { Position self.now.held.now position }
         ensures { result ≡ mark self.now.marks.now position }
     {
-        self.marks[usize::from(position) - 1]
+        self.marks
+            .get(usize::from(position.saturating_sub(1)))
+            .copied()
+            .unwrap_or_default()
     }
 
     // The mark of what a set takes of a position.
     fn leg_worth(&self, leg: u8) -> i128
-        requires { Position self.now.held.now leg }
         ensures value { result ≡ mark self.now.marks.now leg *ℤ pos (lot self.now.size.units self.now.held.now leg) }
         ensures low { neg_ℤ (pos (2 ^ 95)) ≤ℤ result }
         ensures high { result ≤ℤ pos (2 ^ 95) }
     {
-        mark_times(
-            self.mark(leg),
-            u32::from(set_takes(self.size, self.record(leg).kind)),
-        )
+        let units = lot(self.size, self.held, u64::from(leg));
+        mark_times(self.mark(leg), u32::from(units))
     }
 
-    // The marks of what a set takes. Two legs or three: a sum over a list of them would need a bound of its own.
+    // The marks of what a set takes.
     fn worth(&self, legs: Legs) -> i128
-        requires { Positions self.now.held.now (legs_in legs) }
         ensures { result ≡ worth self.now.size.units self.now.held.now self.now.marks.now (legs_in legs) }
     {
         let pair = self.leg_worth(legs.first) + self.leg_worth(legs.second);
+        // No `map_or`: of a closure in generic code that is called at most once, the proof knows nothing.
         match legs.third {
             None => pair,
             Some(third) => pair + self.leg_worth(third),
         }
     }
 
-    // What the book requires of a set, whose legs it is asked for as one slice of two or of three.
-    fn answer(&self, article: u8, legs: Legs) -> Result<u64, BookFault>
-        requires has { Has (B.Book.tables self.now.book.now) article }
-        requires whole { length (legs_in legs) ≡ (B.Book.tables self.now.book.now).legs article }
-        requires positions { Positions self.now.held.now (legs_in legs) }
-        ensures { result ≡ answer (B.Book.tables self.now.book.now) self.now.size.units self.now.held.now (set_at article legs) }
-    {
-        let first = self.record(legs.first);
-        let second = self.record(legs.second);
-        match legs.third {
-            None => self.book.paired(self.size, article, &[first, second]),
-            Some(third) => self
-                .book
-                .paired(self.size, article, &[first, second, self.record(third)]),
-        }
-    }
-
-    // The breach of one set, if it is one.
-    fn set_breach(&self, article: u8, legs: Legs) -> Option<Breach>
-        requires has { Has (B.Book.tables self.now.book.now) article }
-        requires whole { length (legs_in legs) ≡ (B.Book.tables self.now.book.now).legs article }
-        requires positions { Positions self.now.held.now (legs_in legs) }
-        ensures { result ≡ set_breach (B.Book.tables self.now.book.now) self.now.size.units self.now.held.now self.now.marks.now article legs }
-    {
-        if !distinct(legs) {
-            return None;
-        }
-        let requirement = self.answer(article, legs).ok()?;
-        passes(self.worth(legs), requirement).then_some(Breach::Set { article, legs })
-    }
-
-    // The first breach with the legs before given.
-    fn third_leg(&self, article: u8, first: u8, second: u8) -> Option<Breach>
-        requires has { Has (B.Book.tables self.now.book.now) article }
-        requires positions { Position self.now.held.now first × Position self.now.held.now second }
-        ensures { result ≡ third_leg (B.Book.tables self.now.book.now) self.now.size.units self.now.held.now self.now.marks.now article first second }
-    {
-        if self.book.legs(article) == 2 {
-            return self.set_breach(
-                article,
-                Legs {
-                    first,
-                    second,
-                    third: None,
-                },
-            );
-        }
-        (1..=self.positions()).find_map(|third| {
-            self.set_breach(
-                article,
-                Legs {
-                    first,
-                    second,
-                    third: Some(third),
-                },
-            )
-        })
-    }
-
-    fn second_leg(&self, article: u8, first: u8) -> Option<Breach>
-        requires has { Has (B.Book.tables self.now.book.now) article }
-        requires position { Position self.now.held.now first }
-        ensures { result ≡ second_leg (B.Book.tables self.now.book.now) self.now.size.units self.now.held.now self.now.marks.now article first }
-    {
-        (1..=self.positions()).find_map(|second| self.third_leg(article, first, second))
-    }
-
-    fn first_leg(&self, article: u8) -> Option<Breach>
-        requires { Has (B.Book.tables self.now.book.now) article }
-        ensures { result ≡ first_leg (B.Book.tables self.now.book.now) self.now.size.units self.now.held.now self.now.marks.now article }
-    {
-        (1..=self.positions()).find_map(|first| self.second_leg(article, first))
-    }
-
     fn first_article(&self) -> Option<Breach>
         ensures { result ≡ first_article (B.Book.tables self.now.book.now) self.now.size.units self.now.held.now self.now.marks.now }
     {
-        (1..=self.book.articles()).find_map(|article| self.first_leg(article))
+        (1..=self.book.articles()).find_map(
+            |article|
+                requires { Has (B.Book.tables self.now.book.now) article }
+            {
+                let under = Under {
+                    search: self,
+                    article,
+                };
+                under.first_leg()
+            },
+        )
     }
 
     // The breach of a position alone, if it is one.
     fn alone_breach(&self, position: u8) -> Option<Breach>
-        requires { Position self.now.held.now position }
         ensures { result ≡ alone_breach (B.Book.tables self.now.book.now) self.now.size.units self.now.held.now self.now.marks.now position }
     {
         let requirement = self.book.alone(self.size, &self.record(position));
@@ -191,6 +125,78 @@ impl<B: Book> Search<'_, B> {
             None => self.first_article(),
             found => found,
         }
+    }
+}
+
+// A search among the sets of one article, which the book has.
+#[derive(Drop)]
+struct Under<'s, 'a, B: Book> {
+    search: &'s Search<'a, B>,
+    article: u8,
+    ghost has: { Has (B.Book.tables search.now.book.now) article },
+}
+
+impl<B: Book> Under<'_, '_, B> {
+    // What the book requires of a set.
+    fn answer(&self, legs: Legs) -> Result<u64, BookFault>
+        requires { length (legs_in legs) ≡ (B.Book.tables self.now.search.now.book.now).legs self.now.article }
+        ensures { result ≡ answer (B.Book.tables self.now.search.now.book.now) self.now.search.now.size.units self.now.search.now.held.now (set_at self.now.article legs) }
+    {
+        let search = self.search;
+        let records = [
+            search.record(legs.first),
+            search.record(legs.second),
+            search.record(legs.third.unwrap_or(0)),
+        ];
+        let count = if legs.third.is_none() { 2 } else { 3 };
+        search
+            .book
+            .paired(search.size, self.article, &records[..count])
+    }
+
+    // The breach of one set, if it is one.
+    fn set_breach(&self, legs: Legs) -> Option<Breach>
+        requires { length (legs_in legs) ≡ (B.Book.tables self.now.search.now.book.now).legs self.now.article }
+        ensures { result ≡ set_breach (B.Book.tables self.now.search.now.book.now) self.now.search.now.size.units self.now.search.now.held.now self.now.search.now.marks.now self.now.article legs }
+    {
+        if !distinct(legs) {
+            return None;
+        }
+        let article = self.article;
+        let requirement = self.answer(legs).ok()?;
+        passes(self.search.worth(legs), requirement).then_some(Breach::Set { article, legs })
+    }
+
+    // The first breach with the legs before given.
+    fn third_leg(&self, first: u8, second: u8) -> Option<Breach>
+        ensures { result ≡ third_leg (B.Book.tables self.now.search.now.book.now) self.now.search.now.size.units self.now.search.now.held.now self.now.search.now.marks.now self.now.article first second }
+    {
+        if self.search.book.legs(self.article) == 2 {
+            return self.set_breach(Legs {
+                first,
+                second,
+                third: None,
+            });
+        }
+        (1..=self.search.positions()).find_map(|third| {
+            self.set_breach(Legs {
+                first,
+                second,
+                third: Some(third),
+            })
+        })
+    }
+
+    fn second_leg(&self, first: u8) -> Option<Breach>
+        ensures { result ≡ second_leg (B.Book.tables self.now.search.now.book.now) self.now.search.now.size.units self.now.search.now.held.now self.now.search.now.marks.now self.now.article first }
+    {
+        (1..=self.search.positions()).find_map(|second| self.third_leg(first, second))
+    }
+
+    fn first_leg(&self) -> Option<Breach>
+        ensures { result ≡ first_leg (B.Book.tables self.now.search.now.book.now) self.now.search.now.size.units self.now.search.now.held.now self.now.search.now.marks.now self.now.article }
+    {
+        (1..=self.search.positions()).find_map(|first| self.second_leg(first))
     }
 }
 

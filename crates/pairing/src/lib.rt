@@ -2,14 +2,14 @@
 #![tactic(auto)]
 
 ghost use Rattle.std.specs.Prelude.{◌≡◌, ◌^◌, length, pos, ◌*ℤ◌, neg_ℤ, ◌≤ℤ◌};
-ghost use Rattle.pairing.specs.Pairing.{of_leg, FloorUnderCost};
+ghost use Rattle.pairing.specs.Pairing.{at, lot, of_leg, FloorUnderCost};
 ghost use Rattle.pairing.specs.Claims.{legs_of, ClaimsPair};
 ghost use Rattle.pairing.specs.Kept.{SoundKept};
 
 mod text;
 
 use amounts::ContractSize;
-use positions::Kind;
+use positions::{Kind, Record};
 
 // A claim: an article, its legs by the numbers of their positions, the third 0 where the article has two, and a number of sets.
 // The fields are the numbers that a call sends and a file keeps, with nothing checked.
@@ -31,6 +31,16 @@ impl Claim {
     }
 }
 
+// Position `p`, or a record of zeros.
+pub fn at(held: &[Record], p: u64) -> Record
+    ensures { result ≡ at held.now p }
+{
+    // No address is narrower than 64 bits here, so the cast loses nothing.
+    held.get(p.saturating_sub(1) as usize)
+        .copied()
+        .unwrap_or_default()
+}
+
 // What a set takes of a leg: a contract's units of the underlying, and one contract of any other.
 // With this, fair marks are worth no more than any lawful pairing costs; sound claims are such a pairing, and calls keep them sound.
 pub fn set_takes(size: ContractSize, kind: Kind) -> u16
@@ -43,6 +53,13 @@ pub fn set_takes(size: ContractSize, kind: Kind) -> u16
         Kind::Units => size.units,
         Kind::Call | Kind::Put | Kind::Futures | Kind::Receipt => 1,
     }
+}
+
+// What a set takes of position `p` where that is one of its legs.
+pub fn lot(size: ContractSize, held: &[Record], p: u64) -> u16
+    ensures { result ≡ lot size.units held.now p }
+{
+    set_takes(size, at(held, p).kind)
 }
 
 // A mark for some units or contracts.

@@ -1,0 +1,11 @@
+use Rattle.std.proofs.Common.{rules, length, arith}
+use Rattle.breaches.specs.Search.{third_leg}
+use Rattle.breaches.proofs.Firsts.{find_map_first}
+use Rattle.fairness.proofs.Under.second_leg.Goals as goal
+
+pub returns : goal.returns
+returns g c =
+    let u = c.args.self.now in
+    let k = u.search.now in
+    let n = c.new.ensures in
+    find_map_first _ _ (third_leg (g.B.Book.tables k.book.now) k.size.units k.held.now k.marks.now u.article c.args.first) (length k.held.now) (search rules) (λ x o l v e. search rules) c.new.result c.find_map.result c.find_map.ensures.runs n.start (omega (arith, n.end, c.positions.ensures)) n.exhausted

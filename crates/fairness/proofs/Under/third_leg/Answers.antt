@@ -1,0 +1,14 @@
+use Rattle.std.proofs.Common.{rules, Some, None, length, ◌∙◌, sym, arith}
+use Rattle.std.proofs.lemmas.Bool.{cond-false, ne_eqb}
+use Rattle.breaches.specs.Search.{legs_of, set_breach}
+use Rattle.breaches.proofs.Firsts.{find_map_first}
+use Rattle.fairness.proofs.Under.third_leg.Goals as goal
+
+pub returns : goal.returns
+returns g c =
+    let u = c.args.self.now in
+    let k = u.search.now in
+    let t = g.B.Book.tables k.book.now in
+    let n = c.new.ensures in
+    find_map_first _ _ (λ z. set_breach t k.size.units k.held.now k.marks.now u.article (legs_of c.args.first c.args.second (Some z))) (length k.held.now) (search rules) (λ x o l v e. search rules) c.new.result c.find_map.result c.find_map.ensures.runs n.start (omega (arith, n.end, c.positions.ensures)) n.exhausted
+    ∙ sym (cond-false _ (set_breach t k.size.units k.held.now k.marks.now u.article (legs_of c.args.first c.args.second None)) _ (ne_eqb (t.legs u.article) 2 (λ e. c.if-legs-eq2.false (c.legs.ensures ∙ e))))
