@@ -1,7 +1,9 @@
--- The tally that a docket's state holds.
-use Rattle.dockets.specs.declared.state.State.{State}
+-- What a contract sees of a docket.
+use Rattle.amounts.specs.declared.contract_size.ContractSize.{ContractSize}
 use Rattle.dockets.specs.Tally.{Tally}
 
--- the positions held and the lines standing
-abbrev pub tally_in : State → Tally
-tally_in s = record { held = s.held.items; claims = s.lines.items }
+-- the book that it keeps, the contract size, and the positions held and the claims standing
+pub record Docket (B : Type 0) : Type 0 where
+  pub book : B
+  pub size : ContractSize
+  pub tally : Tally

@@ -3,7 +3,6 @@
 ghost use Rattle.std.specs.Prelude.{◌≡◌, true, false, length, Ok, Err};
 ghost use Rattle.amounts.specs.Ranges.{inside};
 ghost use Rattle.dockets.specs.Tally.{empty};
-ghost use Rattle.dockets.specs.Dockets.{tally_in};
 ghost use Rattle.dockets.specs.Calls.{enter_reply, after_enter, claim_judged, claim_reply, after_claim, release_reply, after_release, free_reply, total_reply, certificate_reply};
 
 use crate::Refusal;
@@ -13,7 +12,6 @@ use crate::judging::{
     apart_ok, article_ok, book_ok, covered_ok, line_sets, position_ok, positions_ok, sets_left,
     sets_ok,
 };
-use crate::state::State;
 use amounts::ContractSize;
 use arrayvec::ArrayVec;
 use articles::Leg;
@@ -25,40 +23,40 @@ use positions::{Entry, Record};
 impl<B: Book + Drop> Docket<B> {
     // A docket over a book, for contracts of `size` units, with no position and no claim.
     pub fn open(book: B, size: u64) -> Result<Docket<B>, Refusal>
-        ensures { elim result [ Ok d ↦ (inside 1 1000 size ≡ true) × (d.book ≡ book) × (d.state.size.units ≡ size) × (tally_in d.state ≡ empty) | Err e ↦ (inside 1 1000 size ≡ false) × (e ≡ Refusal.SizeOutOfRange) ] }
+        ensures { elim result [ Ok d ↦ (inside 1 1000 size ≡ true) × (d.book ≡ book) × (d.size.units ≡ size) × (d.tally ≡ empty) | Err e ↦ (inside 1 1000 size ≡ false) × (e ≡ Refusal.SizeOutOfRange) ] }
     {
         let size = ContractSize::new(size).ok_or(Refusal::SizeOutOfRange)?;
-        let state = State {
+        Ok(Docket {
+            book,
             size,
             held: ArrayVec::new(),
             lines: ArrayVec::new(),
-        };
-        Ok(Docket { book, state })
+        })
     }
 
     // Enters a position and answers its number.
     pub fn enter(&mut self, entry: &Entry) -> Result<usize, Refusal>
         ensures book { self.new.book ≡ self.old.book }
-        ensures size { self.new.state.size ≡ self.old.state.size }
-        ensures reply { result ≡ enter_reply self.old.state.size.units (tally_in self.old.state) entry.now }
-        ensures after { tally_in self.new.state ≡ after_enter self.old.state.size.units (tally_in self.old.state) entry.now }
+        ensures size { self.new.size ≡ self.old.size }
+        ensures reply { result ≡ enter_reply self.old.size.units self.old.tally entry.now }
+        ensures after { self.new.tally ≡ after_enter self.old.size.units self.old.tally entry.now }
     {
-        let record = Record::new(self.state.size, entry)?;
-        if let Some(i) = find_position(self.state.positions(), &record) {
+        let record = Record::new(self.size, entry)?;
+        if let Some(i) = find_position(self.positions(), &record) {
             return Err(Refusal::AlreadyHeld(i + 1));
         }
-        let held = &mut self.state.held;
+        let held = &mut self.held;
         held.try_push(record).map_err(|_| Refusal::PositionsFull)?;
         Ok(held.len())
     }
 
     // All that can refuse a claim before its line is looked for.
     fn judge(&self, c: &Claim) -> Result<(), Refusal>
-        ensures { result ≡ claim_judged (B.Book.tables self.now.book) self.now.state.size.units (tally_in self.now.state) c.now }
+        ensures { result ≡ claim_judged (B.Book.tables self.now.book) self.now.size.units self.now.tally c.now }
     {
         article_ok(self.book.articles(), c)?;
         let legs = self.book.legs(c.article as u8);
-        positions_ok(self.state.positions().len(), legs, c)?;
+        positions_ok(self.positions().len(), legs, c)?;
         apart_ok(c)?;
         let account = self.account();
         book_ok(&account, c)?;
@@ -68,16 +66,16 @@ impl<B: Book + Drop> Docket<B> {
     // Claims sets under an article and answers those then in its line.
     pub fn claim(&mut self, c: &Claim) -> Result<u64, Refusal>
         ensures book { self.new.book ≡ self.old.book }
-        ensures size { self.new.state.size ≡ self.old.state.size }
-        ensures reply { result ≡ claim_reply (B.Book.tables self.old.book) self.old.state.size.units (tally_in self.old.state) c.now }
-        ensures after { tally_in self.new.state ≡ after_claim (B.Book.tables self.old.book) self.old.state.size.units (tally_in self.old.state) c.now }
+        ensures size { self.new.size ≡ self.old.size }
+        ensures reply { result ≡ claim_reply (B.Book.tables self.old.book) self.old.size.units self.old.tally c.now }
+        ensures after { self.new.tally ≡ after_claim (B.Book.tables self.old.book) self.old.size.units self.old.tally c.now }
     {
         self.judge(c)?;
-        let place = find_line(self.state.claims(), c);
-        let sets = line_sets(self.state.claims(), place, c)?;
+        let place = find_line(self.claims(), c);
+        let sets = line_sets(self.claims(), place, c)?;
         match place {
-            None => self.state.lines.push(Claim { sets, ..*c }),
-            Some(i) => self.state.lines[i].sets = sets,
+            None => self.lines.push(Claim { sets, ..*c }),
+            Some(i) => self.lines[i].sets = sets,
         }
         Ok(sets)
     }
@@ -85,18 +83,18 @@ impl<B: Book + Drop> Docket<B> {
     // Takes sets back from a line and answers those left; at 0 the line goes.
     pub fn release(&mut self, c: &Claim) -> Result<u64, Refusal>
         ensures book { self.new.book ≡ self.old.book }
-        ensures size { self.new.state.size ≡ self.old.state.size }
-        ensures reply { result ≡ release_reply (tally_in self.old.state) c.now }
-        ensures after { tally_in self.new.state ≡ after_release (tally_in self.old.state) c.now }
+        ensures size { self.new.size ≡ self.old.size }
+        ensures reply { result ≡ release_reply self.old.tally c.now }
+        ensures after { self.new.tally ≡ after_release self.old.tally c.now }
     {
         sets_ok(c)?;
-        let place = find_line(self.state.claims(), c);
-        let sets = sets_left(self.state.claims(), place, c)?;
+        let place = find_line(self.claims(), c);
+        let sets = sets_left(self.claims(), place, c)?;
         if let Some(i) = place {
             if sets == 0 {
-                self.state.lines.remove(i);
+                self.lines.remove(i);
             } else {
-                self.state.lines[i].sets = sets;
+                self.lines[i].sets = sets;
             }
         }
         Ok(sets)
@@ -104,22 +102,22 @@ impl<B: Book + Drop> Docket<B> {
 
     // The units of a position outside claims.
     pub fn free(&self, position: u64) -> Result<u32, Refusal>
-        ensures { result ≡ free_reply self.now.state.size.units (tally_in self.now.state) position }
+        ensures { result ≡ free_reply self.now.size.units self.now.tally position }
     {
-        position_ok(self.state.positions().len(), Leg::First, position)?;
+        position_ok(self.positions().len(), Leg::First, position)?;
         Ok(self.standing().free(position))
     }
 
     // The whole requirement.
     pub fn total(&self) -> u128
-        ensures { result ≡ total_reply (B.Book.tables self.now.book) self.now.state.size.units (tally_in self.now.state) }
+        ensures { result ≡ total_reply (B.Book.tables self.now.book) self.now.size.units self.now.tally }
     {
         self.account().total()
     }
 
     // The total and the floor where the marks are fair.
     pub fn certify(&self, marks: &[i64]) -> Result<Certificate, Refusal>
-        ensures { result ≡ certificate_reply (B.Book.tables self.now.book) self.now.state.size.units (tally_in self.now.state) marks.now }
+        ensures { result ≡ certificate_reply (B.Book.tables self.now.book) self.now.size.units self.now.tally marks.now }
     {
         Ok(self.account().certify(marks)?)
     }

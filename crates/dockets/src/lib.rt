@@ -9,7 +9,6 @@ mod docket;
 mod finding;
 mod judging;
 mod looking;
-mod state;
 mod texts;
 
 use articles::Leg;

@@ -1,6 +1,5 @@
 // What a docket holds, to look at.
 ghost use Rattle.std.specs.Prelude.{◌≡◌, ◌≤◌, length, is_some};
-ghost use Rattle.dockets.specs.Dockets.{tally_in};
 ghost use Rattle.dockets.specs.Finding.{line_like};
 
 use crate::docket::Docket;
@@ -19,31 +18,31 @@ impl<B> Docket<B> {
 
     // The units in a contract.
     pub fn size(&self) -> ContractSize
-        ensures { result ≡ self.now.state.size }
+        ensures { result ≡ self.now.size }
     {
-        self.state.size
+        self.size
     }
 
     // The positions held, in order of entry.
     pub fn positions(&self) -> &[Record]
-        ensures items { result.now ≡ (tally_in self.now.state).held }
+        ensures items { result.now ≡ self.now.tally.held }
         ensures few { length result.now ≤ 32 }
     {
-        self.state.positions()
+        &self.held
     }
 
     // The claims standing.
     pub fn claims(&self) -> &[Claim]
-        ensures items { result.now ≡ (tally_in self.now.state).claims }
+        ensures items { result.now ≡ self.now.tally.claims }
         ensures few { length result.now ≤ 64 }
     {
-        self.state.claims()
+        &self.lines
     }
 
     // Whether a line of the same article and legs stands.
     pub fn has_line(&self, c: &Claim) -> bool
-        ensures { result ≡ is_some (line_like (tally_in self.now.state).claims c.now) }
+        ensures { result ≡ is_some (line_like self.now.tally.claims c.now) }
     {
-        find_line(self.state.claims(), c).is_some()
+        find_line(self.claims(), c).is_some()
     }
 }

@@ -2,7 +2,6 @@
 ghost use Rattle.std.specs.Prelude.{◌≡◌, true, IfOk};
 ghost use Rattle.amounts.specs.Ranges.{inside};
 ghost use Rattle.std.specs.Result.{result_map_both};
-ghost use Rattle.dockets.specs.Dockets.{tally_in};
 ghost use Rattle.dockets.specs.Tally.{empty};
 ghost use Rattle.text.specs.Fields.{got};
 ghost use Rattle.market.specs.Share.{shares_on};
@@ -88,8 +87,8 @@ fn read_size(reader: &mut Reader) -> Result<u64, ReadFault>
 
 // The docket that a file's head opens.
 pub fn open_docket(reader: &mut Reader) -> Result<Docket<Sheet>, ReadFault>
-    ensures head { got (result_map_both (λ d. record { size = d.state.size.units; rates = rates_on d.book }) (λ e. e) result) reader.new.line (pieces reader.new) ≡ head_at reader.old.line (pieces reader.old) }
-    ensures tally { IfOk result (λ d. tally_in d.state ≡ empty) }
+    ensures head { got (result_map_both (λ d. record { size = d.size.units; rates = rates_on d.book }) (λ e. e) result) reader.new.line (pieces reader.new) ≡ head_at reader.old.line (pieces reader.old) }
+    ensures tally { IfOk result (λ d. d.tally ≡ empty) }
 {
     let line = reader.line();
     let size = read_size(reader)?;

@@ -13,8 +13,8 @@ impl Gathered {
     // A position, before any claim and any mark.
     fn take_position(&mut self, value: &[u8]) -> Result<(), LineFault>
         ensures book { self.new.docket.book ≡ self.old.docket.book }
-        ensures size { self.new.docket.state.size ≡ self.old.docket.state.size }
-        ensures body { leaving result (body_in self.new) ≡ position_taken self.old.docket.state.size.units (body_in self.old) value.now }
+        ensures size { self.new.docket.size ≡ self.old.docket.size }
+        ensures body { leaving result (body_in self.new) ≡ position_taken self.old.docket.size.units (body_in self.old) value.now }
     {
         if !self.docket.claims().is_empty() || !self.marks.is_empty() {
             return Err(LineCause::WrongKey.into());
@@ -26,8 +26,8 @@ impl Gathered {
     // A claim, before any mark.
     fn take_claim(&mut self, value: &[u8]) -> Result<(), LineFault>
         ensures book { self.new.docket.book ≡ self.old.docket.book }
-        ensures size { self.new.docket.state.size ≡ self.old.docket.state.size }
-        ensures body { leaving result (body_in self.new) ≡ claim_taken (sheet_tables self.old.docket.book) self.old.docket.state.size.units (body_in self.old) value.now }
+        ensures size { self.new.docket.size ≡ self.old.docket.size }
+        ensures body { leaving result (body_in self.new) ≡ claim_taken (sheet_tables self.old.docket.book) self.old.docket.size.units (body_in self.old) value.now }
     {
         if !self.marks.is_empty() {
             return Err(LineCause::WrongKey.into());
@@ -43,7 +43,7 @@ impl Gathered {
     // A mark, the 32nd at most.
     fn take_mark(&mut self, value: &[u8]) -> Result<(), LineFault>
         ensures book { self.new.docket.book ≡ self.old.docket.book }
-        ensures size { self.new.docket.state.size ≡ self.old.docket.state.size }
+        ensures size { self.new.docket.size ≡ self.old.docket.size }
         ensures body { leaving result (body_in self.new) ≡ mark_taken (body_in self.old) value.now }
     {
         if self.marks.is_full() {
@@ -57,8 +57,8 @@ impl Gathered {
     #[tactic(auto, unfolding(crate::specs::Body::line_taken))]
     pub fn take_line(&mut self, line: &[u8]) -> Result<(), LineFault>
         ensures book { self.new.docket.book ≡ self.old.docket.book }
-        ensures size { self.new.docket.state.size ≡ self.old.docket.state.size }
-        ensures body { leaving result (body_in self.new) ≡ line_taken (sheet_tables self.old.docket.book) self.old.docket.state.size.units (body_in self.old) line.now }
+        ensures size { self.new.docket.size ≡ self.old.docket.size }
+        ensures body { leaving result (body_in self.new) ≡ line_taken (sheet_tables self.old.docket.book) self.old.docket.size.units (body_in self.old) line.now }
     {
         if let Some(value) = line.strip_prefix(b"pos=") {
             return self.take_position(value);

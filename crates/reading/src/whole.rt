@@ -28,8 +28,8 @@ pub struct Contents {
 // Takes all lines that are left.
 fn take_lines(reader: &mut Reader, gathered: &mut Gathered) -> Result<(), ReadFault>
     ensures book { gathered.new.docket.book ≡ gathered.old.docket.book }
-    ensures size { gathered.new.docket.state.size ≡ gathered.old.docket.state.size }
-    ensures body { leaving result (body_in gathered.new) ≡ body_from (sheet_tables gathered.old.docket.book) gathered.old.docket.state.size.units reader.old.line (body_in gathered.old) (pieces reader.old) }
+    ensures size { gathered.new.docket.size ≡ gathered.old.docket.size }
+    ensures body { leaving result (body_in gathered.new) ≡ body_from (sheet_tables gathered.old.docket.book) gathered.old.docket.size.units reader.old.line (body_in gathered.old) (pieces reader.old) }
 {
     let mut line = reader.line();
     while let Some(bytes) = reader.next_line()? {
@@ -43,7 +43,7 @@ fn take_lines(reader: &mut Reader, gathered: &mut Gathered) -> Result<(), ReadFa
 
 // All that a file describes, with its marks.
 fn gather(file: &[u8]) -> Result<Gathered, ReadFault>
-    ensures { result_map_both (λ g. content g.docket.state.size.units (rates_on g.docket.book) (body_in g)) (λ e. e) result ≡ read_file file.now }
+    ensures { result_map_both (λ g. content g.docket.size.units (rates_on g.docket.book) (body_in g)) (λ e. e) result ≡ read_file file.now }
 {
     let mut reader = Reader::new(file);
     let docket = open_docket(&mut reader)?;

@@ -3,7 +3,6 @@
 
 ghost use Rattle.std.specs.Prelude.{◌≡◌, true, false, ◌++◌, take, drop, Ok, Err};
 ghost use Rattle.amounts.specs.Ranges.{inside};
-ghost use Rattle.dockets.specs.Dockets.{tally_in};
 ghost use Rattle.runs.specs.Runs.{reply_to, after, ran, replies};
 ghost use Rattle.runs.specs.Laws.{Onward, served, Ran};
 
@@ -43,9 +42,9 @@ pub type Reply = Result<Granted, Refusal>;
 // One call, whichever it is. It stands apart from `serve`, whose law then follows once, and not anew for each of eleven replies.
 fn dispatch<B: Book + Drop>(docket: &mut Docket<B>, call: &Call) -> Reply
     ensures book { docket.new.book ≡ docket.old.book }
-    ensures size { docket.new.state.size ≡ docket.old.state.size }
-    ensures reply { result ≡ reply_to (B.Book.tables docket.old.book) docket.old.state.size.units (tally_in docket.old.state) call.now }
-    ensures after { tally_in docket.new.state ≡ after (B.Book.tables docket.old.book) docket.old.state.size.units (tally_in docket.old.state) call.now }
+    ensures size { docket.new.size ≡ docket.old.size }
+    ensures reply { result ≡ reply_to (B.Book.tables docket.old.book) docket.old.size.units docket.old.tally call.now }
+    ensures after { docket.new.tally ≡ after (B.Book.tables docket.old.book) docket.old.size.units docket.old.tally call.now }
 {
     Ok(match call {
         Call::Enter(entry) => Granted::Entered(docket.enter(entry)?),
@@ -60,20 +59,20 @@ fn dispatch<B: Book + Drop>(docket: &mut Docket<B>, call: &Call) -> Reply
 // One call, whichever it is; and where calls led here from a docket just opened, all that should hold does after it.
 pub fn serve<B: Book + Drop>(docket: &mut Docket<B>, call: &Call) -> Reply
     ensures book { docket.new.book ≡ docket.old.book }
-    ensures size { docket.new.state.size ≡ docket.old.state.size }
-    ensures reply { result ≡ reply_to (B.Book.tables docket.old.book) docket.old.state.size.units (tally_in docket.old.state) call.now }
-    ensures after { tally_in docket.new.state ≡ after (B.Book.tables docket.old.book) docket.old.state.size.units (tally_in docket.old.state) call.now }
-    ensures onward { Onward (B.Book.tables docket.old.book) docket.old.state.size.units (tally_in docket.old.state) (tally_in docket.new.state) }
+    ensures size { docket.new.size ≡ docket.old.size }
+    ensures reply { result ≡ reply_to (B.Book.tables docket.old.book) docket.old.size.units docket.old.tally call.now }
+    ensures after { docket.new.tally ≡ after (B.Book.tables docket.old.book) docket.old.size.units docket.old.tally call.now }
+    ensures onward { Onward (B.Book.tables docket.old.book) docket.old.size.units docket.old.tally docket.new.tally }
 {
     dispatch(docket, call)
 }
 
 // The calls in order, each reply into the place of the same number, as far as there are places.
 fn serve_all<B: Book + Drop>(docket: &mut Docket<B>, calls: &[Call], places: &mut [Reply])
-    ensures replies { places.new ≡ replies (B.Book.tables docket.old.book) docket.old.state.size.units (tally_in docket.old.state) (take (served calls.now places.old) calls.now) ++ drop (served calls.now places.old) places.old }
-    ensures tally { tally_in docket.new.state ≡ ran (B.Book.tables docket.old.book) docket.old.state.size.units (tally_in docket.old.state) (take (served calls.now places.old) calls.now) }
+    ensures replies { places.new ≡ replies (B.Book.tables docket.old.book) docket.old.size.units docket.old.tally (take (served calls.now places.old) calls.now) ++ drop (served calls.now places.old) places.old }
+    ensures tally { docket.new.tally ≡ ran (B.Book.tables docket.old.book) docket.old.size.units docket.old.tally (take (served calls.now places.old) calls.now) }
     ensures book { docket.new.book ≡ docket.old.book }
-    ensures size { docket.new.state.size ≡ docket.old.state.size }
+    ensures size { docket.new.size ≡ docket.old.size }
 {
     // No `zip`: after a `zip` over `iter_mut` a proof knows nothing of what the places hold.
     let mut calls = calls.iter();
@@ -92,7 +91,7 @@ pub fn run<B: Book + Drop>(
     calls: &[Call],
     places: &mut [Reply],
 ) -> Result<Docket<B>, Refusal>
-    ensures { elim result [ Ok d ↦ (inside 1 1000 size ≡ true) × (d.book ≡ book) × (d.state.size.units ≡ size) × Ran (B.Book.tables book) size calls.now places.old places.new (tally_in d.state) | Err e ↦ (inside 1 1000 size ≡ false) × (e ≡ Refusal.SizeOutOfRange) × (places.new ≡ places.old) ] }
+    ensures { elim result [ Ok d ↦ (inside 1 1000 size ≡ true) × (d.book ≡ book) × (d.size.units ≡ size) × Ran (B.Book.tables book) size calls.now places.old places.new d.tally | Err e ↦ (inside 1 1000 size ≡ false) × (e ≡ Refusal.SizeOutOfRange) × (places.new ≡ places.old) ] }
 {
     let mut docket = Docket::open(book, size)?;
     serve_all(&mut docket, calls, places);

@@ -8,7 +8,6 @@ use Rattle.books.specs.declared.sheets.Sheet.{Sheet}
 use Rattle.pairing.specs.declared.Claim.{Claim}
 use Rattle.pairing.specs.Texts.{claim_text}
 use Rattle.dockets.specs.declared.docket.Docket.{Docket}
-use Rattle.dockets.specs.Dockets.{tally_in}
 use Rattle.reader.specs.Rates.{Rates, share, currency, rates_on}
 use Rattle.reading.specs.Files.{Content}
 
@@ -72,7 +71,7 @@ file_text c = flat_map ended (file_lines c)
 
 -- a docket and marks, as a file describes them
 abbrev pub described : Docket Sheet → List ℤ → Content
-described d marks = record { size = d.state.size.units; rates = rates_on d.book; tally = tally_in d.state; marks = marks }
+described d marks = record { size = d.size.units; rates = rates_on d.book; tally = d.tally; marks = marks }
 
 -- each value prints as its text
 abbrev pub PrintsAs : {A : Type 0} → (A → Option (List ℕ)) → (A → List ℕ) → Type 0

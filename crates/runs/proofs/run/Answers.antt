@@ -1,6 +1,5 @@
 use Rattle.std.proofs.Common.{ap, ◌∙◌}
 use Rattle.amounts.specs.declared.contract_size.ContractSize.{ContractSize}
-use Rattle.dockets.specs.Dockets.{tally_in}
 use Rattle.runs.proofs.Prefixes.{opened}
 use Rattle.runs.proofs.run.Goals as goal
 
@@ -11,5 +10,5 @@ returns g c =
       o.0,
       all.book ∙ o.1,
       ap (λ (n : ContractSize). n.units) all.size ∙ o.2,
-      opened g.B.Book.tables o.1 o.2 o.3 (g.met.B.Book.lawful c.args.book) c.args.calls.now c.args.places.now c.serve_all.new.places (tally_in c.serve_all.new.docket.state) all.replies all.tally,
+      opened g.B.Book.tables o.1 o.2 o.3 (g.met.B.Book.lawful c.args.book) c.args.calls.now c.args.places.now c.serve_all.new.places c.serve_all.new.docket.tally all.replies all.tally,
     )

@@ -2,7 +2,6 @@ use Rattle.std.proofs.Common.{◌≡◌, ℕ, ◌+◌, ◌<◌, List, ◌∷◌,
 use Rattle.std.proofs.lemmas.List.{take-append-drop, set-get_or, drop_more}
 use Rattle.amounts.specs.declared.contract_size.ContractSize.{ContractSize}
 use Rattle.books.specs.Tables.{Tables}
-use Rattle.dockets.specs.Dockets.{tally_in}
 use Rattle.dockets.specs.Tally.{Tally}
 use Rattle.runs.specs.declared.Call.{Call}
 use Rattle.runs.specs.Runs.{Reply, ran, replies}
@@ -27,14 +26,14 @@ loop-place-preserved g c =
     let d = c.args.docket.now in
     let cs = c.args.calls.now in
     let t = g.B.Book.tables d.book in
-    let s = d.state.size.units in
-    let y = tally_in d.state in
+    let s = d.size.units in
+    let y = d.tally in
     let i = c.loop-place.place-index in
     let k = c.in-Some.call.now in
     let inv = c.loop-place.invariant in
     let size = ap (λ (n : ContractSize). n.units) inv.size in
     let next = turn cs _ i k (sym inv.rest ∙ c.in-Some.ensures.steps) in
-    let z = tally_in c.dispatch.new.docket.state in
+    let z = c.dispatch.new.docket.tally in
     let a = c.dispatch.result in
     let after = after_same g.B.Book.tables inv.book size inv.tally k z c.dispatch.ensures.after in
     let reply = reply_same g.B.Book.tables inv.book size inv.tally k a c.dispatch.ensures.reply in
@@ -53,8 +52,8 @@ returns-in_default g c =
     let d = c.args.docket.now in
     let cs = c.args.calls.now in
     let t = g.B.Book.tables d.book in
-    let s = d.state.size.units in
-    let y = tally_in d.state in
+    let s = d.size.units in
+    let y = d.tally in
     let inv = c.loop-place.invariant in
     let os = c.loop-place.places in
     let i = c.loop-place.place-index in
@@ -72,4 +71,4 @@ pub returns-clause-replies : goal.returns-clause-replies
 returns-clause-replies g c =
     let d = c.args.docket.now in
     let inv = c.loop-place.invariant in
-    all_served (g.B.Book.tables d.book) d.state.size.units (tally_in d.state) c.args.calls.now c.args.places.now c.loop-place.places c.loop-place.place-index (omega arith) inv.replied inv.kept
+    all_served (g.B.Book.tables d.book) d.size.units d.tally c.args.calls.now c.args.places.now c.loop-place.places c.loop-place.place-index (omega arith) inv.replied inv.kept

@@ -1,19 +1,18 @@
 use Rattle.std.proofs.Common.{◌≡◌, ◌≤◌, length, take, drop}
 use Rattle.std.specs.Slice.Iter.{iter_rest}
-use Rattle.dockets.specs.Dockets.{tally_in}
 use Rattle.runs.specs.Runs.{ran, replies}
 use Rattle.runs.proofs.serve_all.Given as goal
 
 abbrev pub invariant-loop-place : goal.invariant-loop-place
 invariant-loop-place g l =
     let t = g.B.Book.tables l.initial.docket.book in
-    let s = l.initial.docket.state.size.units in
-    let y = tally_in l.initial.docket.state in
+    let s = l.initial.docket.size.units in
+    let y = l.initial.docket.tally in
     let i = l.place-index in
     record {
       book : l.docket.book ≡ l.initial.docket.book;
-      size : l.docket.state.size ≡ l.initial.docket.state.size;
-      tally : tally_in l.docket.state ≡ ran t s y (take i l.fn.calls);
+      size : l.docket.size ≡ l.initial.docket.size;
+      tally : l.docket.tally ≡ ran t s y (take i l.fn.calls);
       replied : take i l.places ≡ replies t s y (take i l.fn.calls);
       kept : drop i l.places ≡ drop i l.initial.places;
       rest : iter_rest l.calls ≡ drop i l.fn.calls;

@@ -10,9 +10,9 @@ abbrev pub invariant-loop-bytes : goal.invariant-loop-bytes
 invariant-loop-bytes l =
     (l.line ≡ l.reader.line)
     × (l.gathered.docket.book ≡ l.initial.gathered.docket.book)
-    × (l.gathered.docket.state.size ≡ l.initial.gathered.docket.state.size)
-    × (body_from (sheet_tables l.initial.gathered.docket.book) l.initial.gathered.docket.state.size.units l.reader.line (body_in l.gathered) (pieces l.reader)
-    ≡ body_from (sheet_tables l.initial.gathered.docket.book) l.initial.gathered.docket.state.size.units l.initial.reader.line (body_in l.initial.gathered) (pieces l.initial.reader))
+    × (l.gathered.docket.size ≡ l.initial.gathered.docket.size)
+    × (body_from (sheet_tables l.initial.gathered.docket.book) l.initial.gathered.docket.size.units l.reader.line (body_in l.gathered) (pieces l.reader)
+    ≡ body_from (sheet_tables l.initial.gathered.docket.book) l.initial.gathered.docket.size.units l.initial.reader.line (body_in l.initial.gathered) (pieces l.initial.reader))
 
 abbrev pub decreases-loop-bytes : goal.decreases-loop-bytes
 decreases-loop-bytes l = length (pieces l.reader)
