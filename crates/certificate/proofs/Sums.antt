@@ -1,7 +1,7 @@
 -- Steps of sums, and the limit of what a claim adds to one.
-use Rattle.std.proofs.Common.{◌≡◌, ℕ, suc, ◌+◌, ◌*◌, ◌≤◌, Bool, true, false, cond, ◌&&◌, eqb, leb, List, [], ◌∷◌, map, length, sum_by, ℤ, ◌+ℤ◌, Ok, Err, Result, sym, ap, ◌∙◌, subst, ⊎_elim, add-one, arith}
+use Rattle.std.proofs.Common.{◌≡◌, ℕ, zero, suc, ◌+◌, ◌*◌, ◌≤◌, Bool, true, false, cond, ◌&&◌, eqb, leb, List, [], ◌∷◌, map, length, sum_by, ℤ, ◌+ℤ◌, Ok, Err, Result, sym, ap, ◌∙◌, subst, ⊎_elim, add-one, arith}
 use lib.ListN.{length-map}
-use Rattle.std.specs.List.{enumerate_from}
+use Rattle.std.specs.List.{range_with_len}
 use Rattle.std.proofs.lemmas.List.Sums.{sum_by-cons}
 use Rattle.std.proofs.lemmas.Bool.{eqb-true, leb-true, and_parts, cond-true, cond-false, cases_Bool}
 use Rattle.positions.specs.declared.record.Record.{Record}
@@ -21,18 +21,18 @@ sum_n_more n f = ap (λ (k : ℕ). sum_n k f) (add-one n) ∙ ap (λ (k : ℕ). 
 pub sum_z_more : (n : ℕ) (f : ℕ → ℤ) → sum_z (n + 1) f ≡ sum_z n f +ℤ f (n + 1)
 sum_z_more n f = ap (λ (k : ℕ). sum_z k f) (add-one n) ∙ ap (λ (k : ℕ). sum_z n f +ℤ f k) (sym (add-one n))
 
--- f of each number from i + 1 on, as many as a list has places
-sum_from : {X : Type 0} (f : ℕ → ℕ) (xs : List X) (i : ℕ) → sum_n i f + sum_by (λ p. f (p.0 + 1)) (enumerate_from i xs) ≡ sum_n (i + length xs) f
-sum_from f [] i = let w : i + 0 ≡ i = omega arith in omega (arith, ap (λ (n : ℕ). sum_n n f) w)
-sum_from f (x ∷ xs) i =
-    let first = sum_by-cons (λ p. f (p.0 + 1)) (i, x) (enumerate_from (i + 1) xs) in
-    let more = sum_n_more i f in
-    let rest = sum_from f xs (i + 1) in
-    let w : i + suc (length xs) ≡ i + 1 + length xs = omega arith in
+-- f of each of the n numbers after a
+sum_up : (f : ℕ → ℕ) (n a : ℕ) → sum_n a f + sum_by f (range_with_len (a + 1) n) ≡ sum_n (a + n) f
+sum_up f zero a = let w : a + 0 ≡ a = omega arith in omega (arith, ap (λ (n : ℕ). sum_n n f) w)
+sum_up f (suc n) a =
+    let first = sum_by-cons f (a + 1) (range_with_len (a + 1 + 1) n) in
+    let more = sum_n_more a f in
+    let rest = sum_up f n (a + 1) in
+    let w : a + suc n ≡ a + 1 + n = omega arith in
     omega (arith, ap (λ (n : ℕ). sum_n n f) w)
 
-pub sum_places : {X : Type 0} (f : ℕ → ℕ) (xs : List X) → sum_by (λ p. f (p.0 + 1)) (enumerate_from 0 xs) ≡ sum_n (length xs) f
-sum_places f xs = let w : 0 + length xs ≡ length xs = omega arith in omega (arith, sum_from f xs 0, ap (λ (n : ℕ). sum_n n f) w)
+pub sum_places : (f : ℕ → ℕ) (n : ℕ) → sum_by f (range_with_len 1 n) ≡ sum_n n f
+sum_places f n = let w : 0 + n ≡ n = omega arith in omega (arith, sum_up f n 0, ap (λ (n : ℕ). sum_n n f) w)
 
 amount_limit : (o : Result ℕ BookFault) → Within o → amount o ≤ 10000000000000
 amount_limit (Ok n) h = h

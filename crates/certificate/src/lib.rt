@@ -4,7 +4,7 @@
 ghost use Rattle.std.specs.Prelude.{◌≡◌, ◌*◌, ◌^◌, ◌≤◌, length, pos, ◌*ℤ◌, neg_ℤ, ◌≤ℤ◌, if◌then◌else◌, None, nat_eq};
 ghost use Rattle.books.specs.Tables.{Has};
 ghost use Rattle.pairing.specs.Sums.{sum_n};
-ghost use Rattle.pairing.specs.Pairing.{Position, at, limit, lot, takes, answer, floor};
+ghost use Rattle.pairing.specs.Pairing.{Position, limit, lot, takes, answer, floor};
 ghost use Rattle.pairing.specs.Claims.{legs_of, set_of, taken, Sound};
 ghost use Rattle.breaches.specs.Search.{Limited};
 ghost use Rattle.certificate.specs.Certified.{beyond, first_beyond, certify_reply, Certified};
@@ -14,7 +14,7 @@ use amounts::ContractSize;
 use books::{Book, BookFault};
 use breaches::Breach;
 use fairness::first_breach;
-use pairing::{Claim, mark_times, set_takes};
+use pairing::{Claim, at, lot, mark_times};
 use positions::{Kind, Record};
 
 // The whole requirement, and a floor under every lawful pairing, in parts.
@@ -30,15 +30,6 @@ pub enum CertifyFault {
     NotOneEach { given: usize, held: usize },
     BeyondLimit(usize),
     Unfair(Breach),
-}
-
-// Position `p`, or a record of zeros.
-pub fn at(held: &[Record], p: u64) -> Record
-    ensures { result ≡ at held.now p }
-{
-    held.get(p.saturating_sub(1) as usize)
-        .copied()
-        .unwrap_or_default()
 }
 
 // So many of each.
@@ -64,7 +55,7 @@ impl<'a> Standing<'a> {
         ensures bound { result ≤ 65535 }
     {
         if q == p {
-            return u64::from(set_takes(self.size, at(self.held, q).kind));
+            return u64::from(lot(self.size, self.held, q));
         }
         0
     }
@@ -100,6 +91,7 @@ impl<'a> Standing<'a> {
         ensures { result ≡ free self.now.size.units self.now.held.now self.now.claims.now p }
     {
         let quantity = u128::from(at(self.held, p).quantity);
+        // At most the quantity, a `u32`, so the cast loses nothing.
         quantity.saturating_sub(self.taken(p)) as u32
     }
 }
@@ -122,6 +114,7 @@ impl<'a, B: Book> Account<'a, B> {
         let held = self.standing.held;
         let legs = [at(held, l.first), at(held, l.second), at(held, l.third)];
         let count = usize::from(l.legs());
+        // The book has the article and numbers its articles by a `u8`, so the cast loses nothing.
         self.book
             .paired(self.standing.size, l.article as u8, &legs[..count])
     }
@@ -131,6 +124,7 @@ impl<'a, B: Book> Account<'a, B> {
         ensures { result ≡ line_amount (B.Book.tables self.now.book.now) self.now.standing.size.units self.now.standing.held.now l.now }
     {
         let known = (1..=u64::from(self.book.articles())).contains(&l.article);
+        // A known article is at most the book's last, a `u8`, so the cast loses nothing.
         if known && l.legs() == self.book.legs(l.article as u8) {
             return self.answer(l).unwrap_or(0);
         }
@@ -175,8 +169,10 @@ impl<'a, B: Book> Account<'a, B> {
         ensures value { result ≡ sum_n (length self.now.standing.held.now) (free_amount (B.Book.tables self.now.book.now) self.now.standing.size.units self.now.standing.held.now self.now.standing.claims.now) }
         ensures bound { result ≤ 2 ^ 96 * 32 }
     {
-        let places = self.standing.held.iter().enumerate();
-        places.map(|(i, _)| self.free_amount(i as u64 + 1)).sum()
+        // Rust has no `u64::from` of a `usize`; it is at most 32, so the cast loses nothing.
+        (1..=self.standing.held.len() as u64)
+            .map(|p| self.free_amount(p))
+            .sum()
     }
 
     // The whole requirement.
@@ -238,7 +234,7 @@ fn beyond(mark: i64, kind: Kind) -> bool
     ensures { result ≡ beyond mark (limit kind) }
 {
     let n = limit(kind);
-    mark > n || mark < -n
+    !(-n..=n).contains(&mark)
 }
 
 // The first position whose mark is beyond its limit; where there is none, all marks are within theirs.

@@ -9,8 +9,8 @@ ghost use Rattle.dockets.specs.Tally.{Tally};
 use crate::Refusal;
 use articles::Leg;
 use books::Book;
-use certificate::{Account, Standing, at};
-use pairing::{Claim, set_takes};
+use certificate::{Account, Standing};
+use pairing::{Claim, lot};
 
 // Refuses a number of sets outside 1 to 5,000.
 pub fn sets_ok(c: &Claim) -> Result<(), Refusal>
@@ -90,8 +90,8 @@ fn leg_covered(standing: &Standing, c: &Claim, leg: Leg, p: u64) -> Result<(), R
     requires { Position standing.now.held.now p }
     ensures { result ≡ leg_covered standing.now.size.units (record { held = standing.now.held.now; claims = standing.now.claims.now }) c.now leg p }
 {
-    let lot = set_takes(standing.size, at(standing.held, p).kind);
-    if u128::from(c.sets) * u128::from(lot) <= u128::from(standing.free(p)) {
+    let each = lot(standing.size, standing.held, p);
+    if u128::from(c.sets) * u128::from(each) <= u128::from(standing.free(p)) {
         return Ok(());
     }
     Err(Refusal::UnitsShort(leg))

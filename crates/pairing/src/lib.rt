@@ -35,7 +35,7 @@ impl Claim {
 pub fn at(held: &[Record], p: u64) -> Record
     ensures { result ≡ at held.now p }
 {
-    // No address is narrower than 64 bits here, so the cast loses nothing.
+    // A `usize` has 64 bits here, so the cast loses nothing.
     held.get(p.saturating_sub(1) as usize)
         .copied()
         .unwrap_or_default()
