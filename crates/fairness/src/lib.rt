@@ -3,7 +3,7 @@
 
 ghost use Rattle.std.specs.Prelude.{◌≡◌, ℕ, ◌^◌, ◌≤◌, length, pos, ◌*ℤ◌, neg_ℤ, ◌≤ℤ◌, Some, int_lt};
 ghost use Rattle.books.specs.Tables.{Has};
-ghost use Rattle.pairing.specs.Pairing.{Position, Positions, at, mark, lot, worth, answer, distinct};
+ghost use Rattle.pairing.specs.Pairing.{at, mark, lot, worth, answer, distinct};
 ghost use Rattle.breaches.specs.Search.{legs_in, set_at, alone_breach, set_breach, third_leg, second_leg, first_leg, first_alone, first_article, first_breach, Limited, NoneExactlyIfFair};
 ghost use Rattle.breaches.specs.First.{First};
 
@@ -55,7 +55,7 @@ impl<B: Book> Search<'_, B> {
         at(self.held, u64::from(position))
     }
 
-    // The mark of a position, or 0.
+    // The mark of a position, or 0 where there is none.
     fn mark(&self, position: u8) -> i64
         ensures { result ≡ mark self.now.marks.now position }
     {
@@ -80,7 +80,7 @@ impl<B: Book> Search<'_, B> {
         ensures { result ≡ worth self.now.size.units self.now.held.now self.now.marks.now (legs_in legs) }
     {
         let pair = self.leg_worth(legs.first) + self.leg_worth(legs.second);
-        // No `map_or`: of a closure in generic code that is called at most once, the proof knows nothing.
+        // Tried with `map_or`: of a closure called at most once that reads `self`, the proof learns nothing.
         match legs.third {
             None => pair,
             Some(third) => pair + self.leg_worth(third),
