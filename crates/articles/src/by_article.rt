@@ -14,7 +14,7 @@ pub fn set_requirement<M: Market>(
     article: Article,
     legs: &[Record],
 ) -> Result<u64, ArticleFault>
-    ensures { result ≡ requirement_of (M.Market.quote contract.now.market.now) contract.now.size.units article (map terms legs.now) }
+    ensures { result ≡ requirement_of contract.now.quote contract.now.size article (map terms legs.now) }
 {
     match (article, legs) {
         (Article::CallSpread, [long, short]) => spread(contract, Right::Call, long, short),

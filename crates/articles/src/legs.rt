@@ -21,8 +21,8 @@ pub fn spread<M: Market>(
     long: &Record,
     short: &Record,
 ) -> Result<u64, ArticleFault>
-    ensures value { result ≡ spread (M.Market.quote contract.now.market.now) contract.now.size.units right (terms long.now) (terms short.now) }
-    ensures under_short { IfOk result (λ n. n ≤ alone (M.Market.quote contract.now.market.now) contract.now.size.units (terms short.now)) }
+    ensures value { result ≡ spread contract.now.quote contract.now.size right (terms long.now) (terms short.now) }
+    ensures under_short { IfOk result (λ n. n ≤ alone contract.now.quote contract.now.size (terms short.now)) }
 {
     leg_is(Leg::First, Side::Long, right.into(), long)?;
     leg_is(Leg::Second, Side::Short, right.into(), short)?;
@@ -36,9 +36,9 @@ pub fn straddle<M: Market>(
     call: &Record,
     put: &Record,
 ) -> Result<u64, ArticleFault>
-    ensures value { result ≡ straddle (M.Market.quote contract.now.market.now) contract.now.size.units (terms call.now) (terms put.now) }
-    ensures over_call { IfOk result (λ n. alone (M.Market.quote contract.now.market.now) contract.now.size.units (terms call.now) ≤ n) }
-    ensures over_put { IfOk result (λ n. alone (M.Market.quote contract.now.market.now) contract.now.size.units (terms put.now) ≤ n) }
+    ensures value { result ≡ straddle contract.now.quote contract.now.size (terms call.now) (terms put.now) }
+    ensures over_call { IfOk result (λ n. alone contract.now.quote contract.now.size (terms call.now) ≤ n) }
+    ensures over_put { IfOk result (λ n. alone contract.now.quote contract.now.size (terms put.now) ≤ n) }
 {
     leg_is(Leg::First, Side::Short, Kind::Call, call)?;
     leg_is(Leg::Second, Side::Short, Kind::Put, put)?;
@@ -51,8 +51,8 @@ pub fn protective_put<M: Market>(
     put: &Record,
     units: &Record,
 ) -> Result<u64, ArticleFault>
-    ensures value { result ≡ protective_put (M.Market.quote contract.now.market.now) contract.now.size.units (terms put.now) (terms units.now) }
-    ensures under_units { IfOk result (λ n. n ≤ contract.now.size.units * alone (M.Market.quote contract.now.market.now) contract.now.size.units (terms units.now)) }
+    ensures value { result ≡ protective_put contract.now.quote contract.now.size (terms put.now) (terms units.now) }
+    ensures under_units { IfOk result (λ n. n ≤ contract.now.size * alone contract.now.quote contract.now.size (terms units.now)) }
 {
     leg_is(Leg::First, Side::Long, Kind::Put, put)?;
     leg_is(Leg::Second, Side::Long, Kind::Units, units)?;
@@ -84,7 +84,7 @@ pub fn conversion<M: Market>(
     contract: &Contract<M>,
     legs: &ConversionLegs,
 ) -> Result<u64, ArticleFault>
-    ensures { result ≡ converted (M.Market.quote contract.now.market.now) contract.now.size.units legs.now.side (terms legs.now.put.now) (terms legs.now.call.now) (terms legs.now.futures.now) }
+    ensures { result ≡ converted contract.now.quote contract.now.size legs.now.side (terms legs.now.put.now) (terms legs.now.call.now) (terms legs.now.futures.now) }
 {
     let tracked = aligned_legs(contract.market, legs)?;
     Ok(conversion_amount(contract.size, tracked, legs))

@@ -25,7 +25,7 @@ pub fn spread_amount<M: Market>(
     long: &Record,
     short: &Record,
 ) -> u64
-    ensures { result ≡ spread_amount (M.Market.quote contract.now.market.now) contract.now.size.units right (terms long.now) (terms short.now) }
+    ensures { result ≡ spread_amount contract.now.quote contract.now.size right (terms long.now) (terms short.now) }
 {
     let apart = strikes_apart(long.strike_cents(), short.strike_cents());
     let difference = contract.size.times(UnitAmount {
@@ -36,7 +36,7 @@ pub fn spread_amount<M: Market>(
 
 // A straddle: the greatest of either option alone and the put's strike above the call's.
 pub fn straddle_amount<M: Market>(contract: &Contract<M>, call: &Record, put: &Record) -> u64
-    ensures { result ≡ straddle_amount (M.Market.quote contract.now.market.now) contract.now.size.units (terms call.now) (terms put.now) }
+    ensures { result ≡ straddle_amount contract.now.quote contract.now.size (terms call.now) (terms put.now) }
 {
     let above = above(put.strike_cents(), call.strike_cents());
     let difference = contract.size.times(UnitAmount {
@@ -49,7 +49,7 @@ pub fn straddle_amount<M: Market>(contract: &Contract<M>, call: &Record, put: &R
 
 // A protective put: the lesser of a contract's long units and the price plus the premium less the strike.
 pub fn protective_put_amount<M: Market>(contract: &Contract<M>, put: &Record) -> u64
-    ensures { result ≡ protective_put_amount (M.Market.quote contract.now.market.now) contract.now.size.units (terms put.now) }
+    ensures { result ≡ protective_put_amount contract.now.quote contract.now.size (terms put.now) }
 {
     let paid = contract.market.price().parts() + put.price_cents().parts();
     let at_risk = paid.saturating_sub(put.strike_cents().parts());

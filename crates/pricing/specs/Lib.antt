@@ -1,3 +1,4 @@
 pub mod Kinds
+pub mod Priced
 pub mod Options
 pub mod Alone

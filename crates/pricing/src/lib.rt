@@ -5,11 +5,13 @@ ghost use Rattle.std.specs.Prelude.{◌≡◌, ◌-◌, ◌≤◌, pos};
 ghost use Rattle.positions.specs.Records.{terms};
 ghost use Rattle.pricing.specs.Options.{in_the_money, out_of_the_money, time_value, counted_time_value, long_option, before_floor, floor_amount, short_option};
 ghost use Rattle.pricing.specs.Kinds.{kind_of_right};
+ghost use Rattle.pricing.specs.Priced.{Priced};
 ghost use Rattle.pricing.specs.Alone.{units, futures, option_alone, alone};
 
 use amounts::{Cents, ContractSize, UnitAmount};
 use market::Market;
 use positions::{Kind, Record, Side};
+use std::marker::Model;
 
 // What an option gives a right to: a call to buy, a put to sell.
 #[derive(Clone, Copy, PartialEq, Eq, Debug)]
@@ -32,10 +34,17 @@ impl From<Right> for Kind {
 }
 
 // What is priced: contracts of so many units, in one market.
-#[derive_where(Clone, Copy)]
-pub struct Contract<'a, M> {
+#[derive(Drop)]
+pub struct Contract<'a, M: Market> {
     pub market: &'a M,
     pub size: ContractSize,
+}
+
+// A clause sees the market's quote, and how many units a contract has.
+impl<'a, M: Market> Model for Contract<'a, M> {
+    ghost Value = { Priced };
+
+    ghost view = { λ c. record { quote = M.Market.quote c.market.now; size = c.size.units } };
 }
 
 // How far one amount is above another, 0 where it is not.
@@ -99,7 +108,7 @@ pub fn units_alone<M: Market>(market: &M, side: Side) -> u64
 impl<M: Market> Contract<'_, M> {
     // A long option: the time value that counts, and the lesser of the long requirement and the amount in the money.
     pub fn long_option(&self, right: Right, option: &Record) -> u64
-        ensures { result ≡ long_option (M.Market.quote self.now.market.now) self.now.size.units right (terms option.now) }
+        ensures { result ≡ long_option self.now.quote self.now.size right (terms option.now) }
     {
         let in_money = in_the_money(right, option.strike_cents(), self.market.price());
         let time = counted_time_value(time_value(option.price_cents(), in_money), option.days);
@@ -109,7 +118,7 @@ impl<M: Market> Contract<'_, M> {
 
     // A short option's first amount: the premium and the option rate of the price, less the amount out of the money. It may be negative.
     pub fn before_floor(&self, right: Right, option: &Record) -> i64
-        ensures { result ≡ before_floor (M.Market.quote self.now.market.now) self.now.size.units right (terms option.now) }
+        ensures { result ≡ before_floor self.now.quote self.now.size right (terms option.now) }
     {
         let price = self.market.price();
         let out = out_of_the_money(right, option.strike_cents(), price);
@@ -122,7 +131,7 @@ impl<M: Market> Contract<'_, M> {
 
     // A short option's second amount: the premium and the floor rate, of the price for a call, of the strike for a put.
     pub fn floor_amount(&self, right: Right, option: &Record) -> u64
-        ensures value { result ≡ floor_amount (M.Market.quote self.now.market.now) self.now.size.units right (terms option.now) }
+        ensures value { result ≡ floor_amount self.now.quote self.now.size right (terms option.now) }
         ensures bound { result ≤ 10000000000000 }
     {
         let base = match right {
@@ -135,8 +144,8 @@ impl<M: Market> Contract<'_, M> {
 
     // A short option: the greater of the two amounts, so never under its floor amount.
     pub fn short_option(&self, right: Right, option: &Record) -> u64
-        ensures value { pos result ≡ short_option (M.Market.quote self.now.market.now) self.now.size.units right (terms option.now) }
-        ensures floored { floor_amount (M.Market.quote self.now.market.now) self.now.size.units right (terms option.now) ≤ result }
+        ensures value { pos result ≡ short_option self.now.quote self.now.size right (terms option.now) }
+        ensures floored { floor_amount self.now.quote self.now.size right (terms option.now) ≤ result }
     {
         let first = self.before_floor(right, option);
         // The first cast is of at most 10,000,000,000,000; the second is of no less than that amount, so not below 0.
@@ -146,7 +155,7 @@ impl<M: Market> Contract<'_, M> {
 
     // Futures, of either side: the futures rate of the settlement, or all of it where there is no rate.
     pub fn futures_alone(&self, settlement: Cents) -> u64
-        ensures { result ≡ futures (M.Market.quote self.now.market.now) self.now.size.units settlement.amount }
+        ensures { result ≡ futures self.now.quote self.now.size settlement.amount }
     {
         let required = match self.market.futures_rate() {
             Some(rate) => rate.of(settlement),
@@ -157,7 +166,7 @@ impl<M: Market> Contract<'_, M> {
 
     // An option of either side.
     pub fn option_alone(&self, right: Right, option: &Record) -> u64
-        ensures { result ≡ option_alone (M.Market.quote self.now.market.now) self.now.size.units right (terms option.now) }
+        ensures { result ≡ option_alone self.now.quote self.now.size right (terms option.now) }
     {
         match option.side {
             Side::Long => self.long_option(right, option),
@@ -167,7 +176,7 @@ impl<M: Market> Contract<'_, M> {
 
     // What one unit, or one contract, of a position requires alone.
     pub fn alone(&self, position: &Record) -> u64
-        ensures { result ≡ alone (M.Market.quote self.now.market.now) self.now.size.units (terms position.now) }
+        ensures { result ≡ alone self.now.quote self.now.size (terms position.now) }
     {
         match position.kind {
             Kind::Units => units_alone(self.market, position.side),
