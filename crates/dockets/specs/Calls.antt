@@ -118,10 +118,14 @@ covered_ok size y c =
     (unless (covers size y c c.second) (UnitsShort Second)
     (unless (c.third == 0 || covers size y c c.third) (UnitsShort Third) good))
 
--- a new line where 64 stand: 11; a line past 5,000 sets: 12; else the sets then in the line
+-- a line past 5,000 sets: 12; else the sets then in the line
+abbrev pub sets_added : Claim → Claim → Result ℕ Refusal
+sets_added line c = unless (nat_le (line.sets + c.sets) 5000) ClaimTooLarge (Ok (line.sets + c.sets))
+
+-- a new line where 64 stand: 11; else the sets then in the line
 abbrev pub line_reply : List Claim → Option ℕ → Claim → Result ℕ Refusal
 line_reply claims None c = unless (nat_lt (length claims) 64) ClaimsFull (Ok c.sets)
-line_reply claims (Some i) c = unless (nat_le ((get_or claims i no_claim).sets + c.sets) 5000) ClaimTooLarge (Ok ((get_or claims i no_claim).sets + c.sets))
+line_reply claims (Some i) c = sets_added (get_or claims i no_claim) c
 
 -- all that can refuse a claim before its line is looked for
 abbrev pub claim_judged : Tables → ℕ → Tally → Claim → Verdict
@@ -152,10 +156,14 @@ after_claim t size y c = claimed y c (claim_reply t size y c)
 
 -- ---- release
 
--- no such line: 13; more than the line has: 14; else the sets left
+-- more than the line has: 14; else the sets left
+abbrev pub sets_left : Claim → Claim → Result ℕ Refusal
+sets_left line c = unless (nat_le c.sets line.sets) MoreThanClaimed (Ok (line.sets - c.sets))
+
+-- no such line: 13; else the sets left in it
 abbrev pub release_from : List Claim → Option ℕ → Claim → Result ℕ Refusal
 release_from claims None c = Err NoSuchClaim
-release_from claims (Some i) c = unless (nat_le c.sets (get_or claims i no_claim).sets) MoreThanClaimed (Ok ((get_or claims i no_claim).sets - c.sets))
+release_from claims (Some i) c = sets_left (get_or claims i no_claim) c
 
 -- sets outside 1 to 5,000: 6
 abbrev pub release_reply : Tally → Claim → Result ℕ Refusal

@@ -9,7 +9,7 @@ use crate::Refusal;
 use crate::docket::Docket;
 use crate::finding::{find_line, find_position};
 use crate::judging::{
-    apart_ok, article_ok, book_ok, covered_ok, line_sets, position_ok, positions_ok, sets_left,
+    apart_ok, article_ok, book_ok, covered_ok, position_ok, positions_ok, sets_added, sets_left,
     sets_ok,
 };
 use amounts::ContractSize;
@@ -21,17 +21,26 @@ use pairing::Claim;
 use positions::{Entry, Record};
 
 impl<B: Book + Drop> Docket<B> {
-    // A docket over a book, for contracts of `size` units, with no position and no claim.
-    pub fn open(book: B, size: u64) -> Result<Docket<B>, Refusal>
-        ensures { elim result [ Ok d ↦ (inside 1 1000 size ≡ true) × (d.book ≡ book) × (d.size.units ≡ size) × (d.tally ≡ empty) | Err e ↦ (inside 1 1000 size ≡ false) × (e ≡ Refusal.SizeOutOfRange) ] }
+    // A docket over a book, for contracts of a size that is in range, with no position and no claim.
+    pub fn new(book: B, size: ContractSize) -> Docket<B>
+        ensures book { result.book ≡ book }
+        ensures size { result.size ≡ size }
+        ensures tally { result.tally ≡ empty }
     {
-        let size = ContractSize::new(size).ok_or(Refusal::SizeOutOfRange)?;
-        Ok(Docket {
+        Docket {
             book,
             size,
             held: ArrayVec::new(),
             lines: ArrayVec::new(),
-        })
+        }
+    }
+
+    // The same, for contracts of `size` units.
+    pub fn open(book: B, size: u64) -> Result<Docket<B>, Refusal>
+        ensures { elim result [ Ok d ↦ (inside 1 1000 size ≡ true) × (d.book ≡ book) × (d.size.units ≡ size) × (d.tally ≡ empty) | Err e ↦ (inside 1 1000 size ≡ false) × (e ≡ Refusal.SizeOutOfRange) ] }
+    {
+        let size = ContractSize::new(size).ok_or(Refusal::SizeOutOfRange)?;
+        Ok(Docket::new(book, size))
     }
 
     // Enters a position and answers its number.
@@ -55,6 +64,7 @@ impl<B: Book + Drop> Docket<B> {
         ensures { result ≡ claim_judged (B.Book.tables self.now.book) self.now.size.units self.now.tally c.now }
     {
         article_ok(self.book.articles(), c)?;
+        // A cast: article_ok has refused a number beyond the book's articles.
         let legs = self.book.legs(c.article as u8);
         positions_ok(self.positions().len(), legs, c)?;
         apart_ok(c)?;
@@ -71,12 +81,12 @@ impl<B: Book + Drop> Docket<B> {
         ensures after { self.new.tally ≡ after_claim (B.Book.tables self.old.book) self.old.size.units self.old.tally c.now }
     {
         self.judge(c)?;
-        let place = find_line(self.claims(), c);
-        let sets = line_sets(self.claims(), place, c)?;
-        match place {
-            None => self.lines.push(Claim { sets, ..*c }),
-            Some(i) => self.lines[i].sets = sets,
-        }
+        let Some(i) = find_line(self.claims(), c) else {
+            self.lines.try_push(*c).map_err(|_| Refusal::ClaimsFull)?;
+            return Ok(c.sets);
+        };
+        let sets = sets_added(&self.claims()[i], c)?;
+        self.lines[i].sets = sets;
         Ok(sets)
     }
 
@@ -88,14 +98,12 @@ impl<B: Book + Drop> Docket<B> {
         ensures after { self.new.tally ≡ after_release self.old.tally c.now }
     {
         sets_ok(c)?;
-        let place = find_line(self.claims(), c);
-        let sets = sets_left(self.claims(), place, c)?;
-        if let Some(i) = place {
-            if sets == 0 {
-                self.lines.remove(i);
-            } else {
-                self.lines[i].sets = sets;
-            }
+        let i = find_line(self.claims(), c).ok_or(Refusal::NoSuchClaim)?;
+        let sets = sets_left(&self.claims()[i], c)?;
+        if sets == 0 {
+            self.lines.remove(i);
+        } else {
+            self.lines[i].sets = sets;
         }
         Ok(sets)
     }

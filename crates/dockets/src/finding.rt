@@ -19,6 +19,8 @@ fn like_claim(c: &Claim, x: &Claim) -> bool
     (x.article, x.first, x.second, x.third) == (c.article, c.first, c.second, c.third)
 }
 
+// A function for each list: what makes two positions alike and what makes two lines alike are different fields.
+
 // The place of the position like `r`, from 0.
 pub fn find_position(held: &[Record], r: &Record) -> Option<usize>
     ensures value { result ≡ position_like held.now r.now }

@@ -3,7 +3,7 @@ ghost use Rattle.std.specs.Prelude.{◌≡◌, ◌<◌, ◌≤◌, length, IfSom
 ghost use Rattle.books.specs.Tables.{Has};
 ghost use Rattle.pairing.specs.Pairing.{Position, answer};
 ghost use Rattle.pairing.specs.Claims.{legs_of, set_of};
-ghost use Rattle.dockets.specs.Calls.{sets_ok, article_ok, position_ok, third_ok, positions_ok, apart_ok, book_ok, leg_covered, covered_ok, line_reply, release_from};
+ghost use Rattle.dockets.specs.Calls.{sets_ok, article_ok, position_ok, third_ok, positions_ok, apart_ok, book_ok, leg_covered, covered_ok, sets_added, sets_left};
 ghost use Rattle.dockets.specs.Tally.{Tally};
 
 use crate::Refusal;
@@ -35,6 +35,7 @@ pub fn article_ok(articles: u8, c: &Claim) -> Result<(), Refusal>
 pub fn position_ok(count: usize, leg: Leg, p: u64) -> Result<(), Refusal>
     ensures { result ≡ position_ok count leg p }
 {
+    // A cast: a u64 is not made from a usize by From.
     if !(1..=count as u64).contains(&p) {
         return Err(Refusal::NoSuchPosition(leg));
     }
@@ -111,29 +112,19 @@ pub fn covered_ok(standing: &Standing, c: &Claim) -> Result<(), Refusal>
     leg_covered(standing, c, Leg::Third, c.third)
 }
 
-// The sets then in the line at `place`, or in a new one.
-pub fn line_sets(claims: &[Claim], place: Option<usize>, c: &Claim) -> Result<u64, Refusal>
-    requires { IfSome place (λ i. i < length claims.now) }
-    ensures { result ≡ line_reply claims.now place c.now }
+// The sets then in a line.
+pub fn sets_added(line: &Claim, c: &Claim) -> Result<u64, Refusal>
+    ensures { result ≡ sets_added line.now c.now }
 {
-    let Some(i) = place else {
-        if claims.len() >= 64 {
-            return Err(Refusal::ClaimsFull);
-        }
-        return Ok(c.sets);
-    };
-    let sets = claims[i].sets.checked_add(c.sets);
+    let sets = line.sets.checked_add(c.sets);
     sets.filter(|n| *n <= 5_000).ok_or(Refusal::ClaimTooLarge)
 }
 
-// The sets left in the line at `place`.
-pub fn sets_left(claims: &[Claim], place: Option<usize>, c: &Claim) -> Result<u64, Refusal>
-    requires { IfSome place (λ i. i < length claims.now) }
-    ensures { result ≡ release_from claims.now place c.now }
+// The sets left in a line.
+pub fn sets_left(line: &Claim, c: &Claim) -> Result<u64, Refusal>
+    ensures { result ≡ sets_left line.now c.now }
 {
-    let i = place.ok_or(Refusal::NoSuchClaim)?;
-    claims[i]
-        .sets
+    line.sets
         .checked_sub(c.sets)
         .ok_or(Refusal::MoreThanClaimed)
 }

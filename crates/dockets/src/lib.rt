@@ -41,6 +41,7 @@ pub enum Refusal {
 }
 
 // What is returned with a refusal's number; a detail that it has not is 0.
+// Four numbers, and no enum: the file format and the answers to C give each refusal four.
 #[derive(Clone, Copy, Debug, Default, PartialEq, Eq)]
 pub struct Details {
     pub one: usize,
@@ -117,7 +118,7 @@ impl Refusal {
     {
         match self {
             Refusal::FieldOutOfRange(field) => Details {
-                one: field.number() as usize,
+                one: usize::from(field.number()),
                 ..Details::default()
             },
             Refusal::AlreadyHeld(position) | Refusal::BeyondLimit(position) => Details {
@@ -126,12 +127,12 @@ impl Refusal {
             },
             Refusal::NoSuchPosition(leg) | Refusal::PositionTwice(leg) | Refusal::UnitsShort(leg) =>
                 Details {
-                    one: leg.number() as usize,
+                    one: usize::from(leg.number()),
                     ..Details::default()
                 },
             Refusal::BookRefuses(fault) => Details {
-                one: fault.cause as usize,
-                two: fault.leg_number() as usize,
+                one: usize::from(fault.cause),
+                two: usize::from(fault.leg_number()),
                 ..Details::default()
             },
             Refusal::NotOneEach { given, held } => Details {
@@ -140,14 +141,14 @@ impl Refusal {
                 ..Details::default()
             },
             Refusal::Unfair(Breach::Alone { position }) => Details {
-                two: position as usize,
+                two: usize::from(position),
                 ..Details::default()
             },
             Refusal::Unfair(Breach::Set { article, legs }) => Details {
-                one: article as usize,
-                two: legs.first as usize,
-                three: legs.second as usize,
-                four: legs.third.map_or(0, |third| third as usize),
+                one: usize::from(article),
+                two: usize::from(legs.first),
+                three: usize::from(legs.second),
+                four: legs.third.map_or(0, usize::from),
             },
             Refusal::SizeOutOfRange
             | Refusal::PositionsFull

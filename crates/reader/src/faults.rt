@@ -110,19 +110,19 @@ impl ReadFault {
             LineFault::Bad { place, cause } => Details {
                 one: self.line,
                 two: place,
-                three: cause.number() as usize,
+                three: usize::from(cause.number()),
                 ..Details::default()
             },
             LineFault::Sheet(fault) => Details {
                 one: self.line,
-                two: fault.number() as usize,
+                two: usize::from(fault.number()),
                 ..Details::default()
             },
             LineFault::Call(refusal) => {
                 let details = refusal.details();
                 Details {
                     one: self.line,
-                    two: refusal.number() as usize,
+                    two: usize::from(refusal.number()),
                     three: details.one,
                     four: details.two,
                 }

@@ -75,14 +75,12 @@ fn read_sheet(reader: &mut Reader) -> Result<Sheet, ReadFault>
 }
 
 // The contract size, judged at its own line.
-fn read_size(reader: &mut Reader) -> Result<u64, ReadFault>
-    ensures value { got result reader.new.line (pieces reader.new) ≡ size_at reader.old.line (pieces reader.old) }
-    ensures range { IfOk result (λ n. inside 1 1000 n ≡ true) }
+fn read_size(reader: &mut Reader) -> Result<ContractSize, ReadFault>
+    ensures { got (result_map_both (λ s. s.units) (λ e. e) result) reader.new.line (pieces reader.new) ≡ size_at reader.old.line (pieces reader.old) }
 {
     let line = reader.line();
     let size = value_line::<u64>(reader, b"size=")?;
-    ContractSize::new(size).ok_or(ReadFault::on(line, Refusal::SizeOutOfRange))?;
-    Ok(size)
+    ContractSize::new(size).ok_or(ReadFault::on(line, Refusal::SizeOutOfRange))
 }
 
 // The docket that a file's head opens.
@@ -90,8 +88,7 @@ pub fn open_docket(reader: &mut Reader) -> Result<Docket<Sheet>, ReadFault>
     ensures head { got (result_map_both (λ d. record { size = d.size.units; rates = rates_on d.book }) (λ e. e) result) reader.new.line (pieces reader.new) ≡ head_at reader.old.line (pieces reader.old) }
     ensures tally { IfOk result (λ d. d.tally ≡ empty) }
 {
-    let line = reader.line();
     let size = read_size(reader)?;
     let sheet = read_sheet(reader)?;
-    Docket::open(sheet, size).map_err(|refusal| ReadFault::on(line, refusal))
+    Ok(Docket::new(sheet, size))
 }

@@ -28,6 +28,7 @@ impl<'a> Reader<'a> {
 }
 
 // The value of a line of a key and one field.
+// The bound on a key stands here and at value_line: two functions share it, and no type.
 fn value_of<T: Value + Drop>(line: &[u8], key: &[u8]) -> Result<T, LineFault>
     requires { length key.now ≤ 99 }
     ensures { result ≡ value_of T.Value.reads key.now line.now }

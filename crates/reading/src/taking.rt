@@ -1,4 +1,5 @@
 // One line after the head, taken into what came before: a function for each key, since they share only the test of what is due.
+// `book` and `size` say in each what a line leaves as it was, which no ghost field can say.
 ghost use Rattle.std.specs.Prelude.{◌≡◌};
 ghost use Rattle.books.specs.Books.{sheet_tables};
 ghost use Rattle.reading.specs.Body.{position_taken, claim_taken, mark_taken, line_taken};

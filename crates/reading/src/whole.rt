@@ -26,6 +26,7 @@ pub struct Contents {
 }
 
 // Takes all lines that are left.
+// `book` and `size` say what they leave as it was, which no ghost field can say.
 fn take_lines(reader: &mut Reader, gathered: &mut Gathered) -> Result<(), ReadFault>
     ensures book { gathered.new.docket.book ≡ gathered.old.docket.book }
     ensures size { gathered.new.docket.size ≡ gathered.old.docket.size }

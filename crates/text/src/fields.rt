@@ -14,6 +14,7 @@ pub struct Fields<'a> {
 
 impl<'a> Fields<'a> {
     // The fields of a value that begins at a place of its line.
+    // The bound on a place stands here and at one_field: two functions share it, and no type.
     pub fn new(rest: &'a [u8], place: usize) -> Fields<'a>
         requires { (1 ≤ place) × (place ≤ 100) }
         ensures { (remaining result.rest ≡ split 44 rest.now) × (result.place ≡ place) }

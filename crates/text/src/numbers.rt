@@ -12,7 +12,7 @@ fn digits_after(n: u64, s: &[u8]) -> Option<u64>
     match s {
         [] => Some(n),
         [first, rest @ ..] => match *first {
-            b'0'..=b'9' => digits_after(n * 10 + (*first - b'0') as u64, rest),
+            b'0'..=b'9' => digits_after(n * 10 + u64::from(*first - b'0'), rest),
             _ => None,
         },
     }
@@ -31,6 +31,7 @@ pub fn natural_of(s: &[u8]) -> Option<u64>
 }
 
 // What stands after a minus sign: a number, but not 0.
+// Casts: natural_of bounds the number, and an i64 is not made from a u64 by From.
 fn negative_of(s: &[u8]) -> Option<i64>
     ensures { result ≡ negative s.now }
 {

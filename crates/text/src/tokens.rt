@@ -13,6 +13,7 @@ pub enum Token<'a> {
 }
 
 // The token that a stretch of bytes is.
+// No TryFrom: a stretch that is no token has no error to give.
 pub fn token_of<'a>(s: &'a [u8]) -> Option<Token<'a>>
     ensures { option_map shown result ≡ word_of s.now }
 {

@@ -10,6 +10,7 @@ use crate::numbers::{integer_of, natural_of};
 use crate::tokens::{Token, token_of};
 
 // What can stand in a field.
+// No TryFrom: u64, char, i64, bool and Option are types of other crates.
 pub trait Value {
     ghost reads: { List ℕ → Maybe Self };
 
@@ -36,7 +37,7 @@ impl Value for char {
 
     fn of_field(field: &[u8]) -> Option<char> {
         match token_of(field)? {
-            Token::Letter([c]) => Some(*c as char),
+            Token::Letter([c]) => Some(char::from(*c)),
             _ => None,
         }
     }
@@ -99,6 +100,7 @@ pub fn end(f: &mut Fields) -> Result<(), BadField>
 }
 
 // The one field of a value that begins at a place of its line.
+// The bound on a place stands here and at Fields::new: two functions share it, and no type.
 pub fn one_field<T: Value + Drop>(value: &[u8], place: usize) -> Result<T, BadField>
     requires { (1 ≤ place) × (place ≤ 100) }
     ensures { result ≡ one_field T.Value.reads place (split 44 value.now) }

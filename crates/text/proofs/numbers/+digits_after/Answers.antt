@@ -1,4 +1,4 @@
-use Rattle.std.proofs.Common.{◌≡◌, suc, ◌-◌, ◌<◌, length, get_or, take, drop, arith, rules}
+use Rattle.std.proofs.Common.{◌≡◌, suc, ◌-◌, ◌<◌, length, take, drop, arith, rules}
 use Rattle.text.proofs.Digits.{small, room_more}
 use Rattle.text.proofs.numbers.+digits_after.Goals as goal
 
@@ -15,5 +15,5 @@ digits_after-requires t c =
     let k : length (take (length s - 1) (drop 1 s)) ≡ length s - 1 = search rules in
     let e : length s ≡ suc (length s - 1) = omega arith in (
       search rules,
-      rw k (room_more c.args.n (get_or s 0 0 - 48) (length s - 1) _ (rw e at c.requires) (search rules)),
+      rw k (room_more c.args.n c.from.result (length s - 1) _ (rw e at c.requires) (search rules)),
     )
