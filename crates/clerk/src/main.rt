@@ -36,26 +36,6 @@ fn claim_of(article: u64, first: u64, second: u64, third: u64, sets: u64) -> Cla
     }
 }
 
-fn print_marks(rt: &HostRuntime, marks: &[i64]) -> anyhow::Result<()> {
-    print!(rt; "certify")?;
-    for mark in marks {
-        print!(rt; " {mark}")?;
-    }
-    Ok(())
-}
-
-fn print_call(rt: &HostRuntime, call: &Call) -> anyhow::Result<()> {
-    match call {
-        Call::Enter(entry) => print!(rt; "enter={entry}")?,
-        Call::Claim(claim) => print!(rt; "claim={claim}")?,
-        Call::Release(claim) => print!(rt; "release={claim}")?,
-        Call::Free(position) => print!(rt; "free={position}")?,
-        Call::Total => print!(rt; "total")?,
-        Call::Certify(marks) => print_marks(rt, marks)?,
-    }
-    Ok(())
-}
-
 fn print_reply(rt: &HostRuntime, reply: Reply) -> anyhow::Result<()> {
     match reply {
         Ok(granted) => println!(rt; " granted={granted}")?,
@@ -76,7 +56,7 @@ fn serve_and_print(rt: &HostRuntime, what: &str, size: u64, calls: &[Call]) -> a
     ) {
         Ok(_) => {
             for (call, reply) in calls.iter().zip(replies.as_slice().iter()) {
-                print_call(rt, call)?;
+                print!(rt; "{call}")?;
                 print_reply(rt, *reply)?;
             }
             Ok(())

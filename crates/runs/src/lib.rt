@@ -1,4 +1,5 @@
 // Runs of calls on a docket, and what holds after each call.
+// `book` and `size` say in each what the calls leave as it was, which no ghost field can say.
 #![tactic(auto)]
 
 ghost use Rattle.std.specs.Prelude.{◌≡◌, true, false, ◌++◌, take, drop, Ok, Err};
@@ -15,7 +16,7 @@ use pairing::Claim as ClaimOf;
 use positions::Entry;
 
 // One of the six calls, with its input as it is sent.
-#[derive(Clone, Copy)]
+#[derive(Clone, Copy, Debug, PartialEq, Eq)]
 pub enum Call<'a> {
     Enter(Entry),
     Claim(ClaimOf),
@@ -85,6 +86,7 @@ fn serve_all<B: Book + Drop>(docket: &mut Docket<B>, calls: &[Call], places: &mu
 }
 
 // Opens a docket over a book and serves a list of calls, each reply into the place of the same number.
+// The places are the caller's: the product takes the replies in this form.
 pub fn run<B: Book + Drop>(
     book: B,
     size: u64,
