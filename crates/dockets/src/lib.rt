@@ -41,7 +41,7 @@ pub enum Refusal {
 }
 
 // What is returned with a refusal's number; a detail that it has not is 0.
-// Four numbers, and no enum: the file format and the answers to C give each refusal four.
+// Four numbers, and no enum: the file format gives each refusal four.
 #[derive(Clone, Copy, Debug, Default, PartialEq, Eq)]
 pub struct Details {
     pub one: usize,
