@@ -1,6 +1,6 @@
 // The calls on a docket. Each takes its input as it is sent, with nothing checked beforehand; a refusal leaves the docket as it was.
 // `book` and `size` say in each what a call leaves as it was, which no ghost field can say.
-ghost use Rattle.std.specs.Prelude.{◌≡◌, true, false, length, Ok, Err};
+ghost use Rattle.std.specs.Prelude.{◌≡◌, true, false, Ok, Err};
 ghost use Rattle.amounts.specs.Ranges.{inside};
 ghost use Rattle.dockets.specs.Tally.{empty};
 ghost use Rattle.dockets.specs.Calls.{enter_reply, after_enter, claim_judged, claim_reply, after_claim, release_reply, after_release, free_reply, total_reply, certificate_reply};

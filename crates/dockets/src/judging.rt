@@ -1,5 +1,5 @@
 // The conditions on a claim and on a release, in the order of their refusals.
-ghost use Rattle.std.specs.Prelude.{◌≡◌, ◌<◌, ◌≤◌, length, IfSome, OnOk};
+ghost use Rattle.std.specs.Prelude.{◌≡◌, ◌<◌, ◌≤◌, length, OnOk};
 ghost use Rattle.books.specs.Tables.{Has};
 ghost use Rattle.pairing.specs.Pairing.{Position, answer};
 ghost use Rattle.pairing.specs.Claims.{legs_of, set_of};

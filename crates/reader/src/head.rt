@@ -1,6 +1,5 @@
 // The head of a file: the contract size, and the lines of a sheet.
-ghost use Rattle.std.specs.Prelude.{◌≡◌, true, IfOk};
-ghost use Rattle.amounts.specs.Ranges.{inside};
+ghost use Rattle.std.specs.Prelude.{◌≡◌, IfOk};
 ghost use Rattle.std.specs.Result.{result_map_both};
 ghost use Rattle.dockets.specs.Tally.{empty};
 ghost use Rattle.text.specs.Fields.{got};
