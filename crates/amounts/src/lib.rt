@@ -1,4 +1,5 @@
 // Amounts with their ranges in their types, and the exact products of them.
+// A type for each and not one with its bounds as parameters: a price and a rate would then differ by numbers alone.
 // Prices are whole cents a unit, a rate is in basis points, and a part is one ten-thousandth of a cent, so that cents times a rate are parts.
 #![tactic(auto)]
 
