@@ -99,7 +99,7 @@ decided_from false make other x never h = absurd (never h)
 module _ (size : ℕ) (few : size ≤ 1000) (e : Entry) (r : Record) where
   from_range : (side : Side) (k : Kind) → e.side ≡ side_letter side → e.kind ≡ kind_letter k → Small e → ranged e side k (Ok tt) ≡ Ok r → Made e r
   from_range side k s l m h =
-      let is = decided_from (in_range side k e.strike e.days e.price) _ _ _ (λ z. let w : ◌≡◌ {A = ℕ} 0 1 = cc in omega arith) h in
+      let is = decided_from (in_range side k e.strike e.days e.price) _ _ _ (λ z. cc) h in
       let same = same_record _ r is.1 in
       let days = ap (λ (x : Record). x.days) same in
       let quantity = ap (λ (x : Record). x.quantity) same in
