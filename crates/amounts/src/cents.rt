@@ -11,6 +11,7 @@ pub struct Cents {
 
 impl Cents {
     // The amount, or none beyond 500,000.
+    // An Option and no TryFrom: there is one way to fail, and callers name their own fault.
     pub fn new(amount: u64) -> Option<Cents>
         ensures { option_map (λ (c : Cents). c.amount) result ≡ within 0 500000 amount }
     {

@@ -12,6 +12,7 @@ pub struct ContractSize {
 
 impl ContractSize {
     // The size, or none outside 1 to 1,000.
+    // An Option and no TryFrom: there is one way to fail, and callers name their own fault.
     pub fn new(units: u64) -> Option<ContractSize>
         ensures { option_map (λ (c : ContractSize). c.units) result ≡ within 1 1000 units }
     {

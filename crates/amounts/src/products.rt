@@ -1,3 +1,4 @@
+// Exact products. Their bounds are clauses: a type for them would be made and taken apart in one line.
 ghost use Rattle.std.specs.Prelude.{◌≡◌, ◌*◌, ◌≤◌, pos, ◌-ℤ◌, ◌*ℤ◌, unsigned_abs};
 
 use crate::cents::Cents;

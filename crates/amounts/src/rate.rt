@@ -11,6 +11,7 @@ pub struct Rate {
 
 impl Rate {
     // The rate, or none beyond 10,000.
+    // An Option and no TryFrom: there is one way to fail, and callers name their own fault.
     pub fn new(basis_points: u64) -> Option<Rate>
         ensures { option_map (λ (c : Rate). c.basis_points) result ≡ within 0 10000 basis_points }
     {

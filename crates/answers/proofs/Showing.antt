@@ -1,5 +1,5 @@
 -- What the answer to a file that is read tells of its docket.
-use Rattle.std.proofs.Common.{◌≡◌, ℕ, Bool, true, false, cond, List, [], ◌∷◌, length, ℤ, pos, negsuc, ◌≤ℤ◌, Some, None, Ok, Err, Result, sym, refl, ap, ◌∙◌, subst, arith}
+use Rattle.std.proofs.Common.{◌≡◌, ℕ, Bool, true, false, cond, List, [], ◌∷◌, length, ℤ, pos, negsuc, ◌≤ℤ◌, Some, None, Ok, Err, Result, sym, refl, ap, ◌∙◌, subst}
 use Rattle.std.proofs.lemmas.Bool.{eqb-true}
 use Rattle.std.proofs.lemmas.Option.{none-some}
 use Rattle.std.specs.Result.{result_map_both}
@@ -16,7 +16,8 @@ use Rattle.runs.specs.Laws.{Holds, Led}
 use Rattle.runs.proofs.Holding.{runs_hold}
 use Rattle.reader.specs.Rates.{rates_on, tables_by}
 use Rattle.reading.specs.Files.{Content, read_file}
-use Rattle.files.proofs.Whole.{sheet_lawful, sheet_tables_lem}
+use Rattle.books.specs.Lawful.{sheet_lawful}
+use Rattle.files.proofs.Whole.{sheet_tables_lem}
 use Rattle.answers.specs.declared.Summary.{Summary}
 use Rattle.answers.specs.declared.Verdict.TheVariants.{Least, Gap}
 use Rattle.answers.specs.Answers.{Figures, figures, figures_by, of_certificate, verdict_of, meets, summed, summary_in}

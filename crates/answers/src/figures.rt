@@ -10,7 +10,7 @@ use books::Sheet;
 use dockets::Docket;
 use files::load;
 
-// The figures of a docket and its marks; without marks nothing is certified.
+// The figures of a docket and its marks, which the product keeps beside it; without marks nothing is certified.
 fn summed(docket: &Docket<Sheet>, marks: &[i64]) -> Result<Summary, FileFault>
     ensures { result ≡ summary_in (described docket.now marks.now) }
 {
@@ -35,9 +35,11 @@ pub fn answer_to(file: &[u8]) -> Result<Summary, FileFault>
     ensures told { ToldBy file.now result }
     ensures faithful { Faithful }
 {
+    // The same test as in tariffs: a function for both would be no shorter.
     if file.len() > 65_536 {
         return Err(FileFault::TooLong);
     }
+    // Places for the marks, and how many are filled: reading takes them in this form, which the product fixes.
     let mut marks = [0; 32];
     let contents = load(file, &mut marks)?;
     summed(&contents.docket, &marks[..contents.marks])

@@ -37,7 +37,7 @@ pub enum Verdict {
 }
 
 // What a file is answered, or why it is refused: a type of its own, so that either is printed by one Display.
-#[derive(Drop)]
+#[derive(Clone, Debug, PartialEq, Eq, Drop)]
 pub struct Answer<T>(pub Result<T, FileFault>);
 
 impl From<ReadFault> for FileFault {

@@ -9,6 +9,7 @@ use positions::{Record, Side};
 use pricing::{Contract, Right};
 
 // What a set requires under an article, or why it is refused; a leg too few or too many is a wrong leg.
+// A match: each article takes its own legs.
 pub fn set_requirement<M: Market>(
     contract: &Contract<M>,
     article: Article,

@@ -60,7 +60,7 @@ pub fn protective_put<M: Market>(
 }
 
 // The legs of a conversion or of a reconversion, with the side of its put and of its futures.
-#[derive(Clone, Copy)]
+#[derive(Clone, Copy, Debug, PartialEq, Eq)]
 pub struct ConversionLegs<'a> {
     pub side: Side,
     pub put: &'a Record,

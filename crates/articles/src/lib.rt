@@ -95,8 +95,7 @@ impl ArticleFault {
         ensures { result ≡ cause_leg self }
     {
         match self {
-            ArticleFault::WrongLeg(leg) => Some(leg),
-            ArticleFault::WrongDays(leg) => Some(leg),
+            ArticleFault::WrongLeg(leg) | ArticleFault::WrongDays(leg) => Some(leg),
             ArticleFault::Market(MarketFault::NoTracking) => None,
         }
     }

@@ -77,12 +77,8 @@ pub fn conversion_amount(size: ContractSize, tracked: UnitAmount, legs: &Convers
         call,
         futures,
     } = *legs;
-    let lesser = Cents {
-        amount: put.strike_cents().amount.min(call.strike_cents().amount),
-    };
-    let larger = Cents {
-        amount: put.strike_cents().amount.max(call.strike_cents().amount),
-    };
+    let lesser = put.strike_cents().min(call.strike_cents());
+    let larger = put.strike_cents().max(call.strike_cents());
     let difference = match side {
         // Settlement − lesser strike + put premium − call premium.
         Side::Long => size.difference(

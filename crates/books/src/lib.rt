@@ -16,7 +16,7 @@ use std::error::Error;
 use std::fmt;
 
 // Why a book refuses a set: a cause from 1 to 255, and the leg that it names, if it names one.
-// The cause is a number, since any book may have causes of its own.
+// The cause is a number: the product lets any book have causes of its own.
 #[derive(Clone, Copy, Debug, PartialEq, Eq)]
 pub struct BookFault {
     pub cause: u8,
@@ -50,7 +50,7 @@ impl fmt::Display for BookFault {
 impl Error for BookFault {}
 
 // Anything that keeps four such tables is a book.
-// Articles are asked by number, since the interface numbers the articles of any book from 1.
+// An article is asked for by its number, from 1: the product fixes the interface so, for any book.
 pub trait Book {
     ghost tables: { Self → Tables };
 
@@ -67,7 +67,8 @@ pub trait Book {
     fn alone(&self, size: ContractSize, position: &Record) -> u64
         ensures { result ≡ (tables self.now).alone size.units position.now };
 
-    // What a set requires under an article, with all its legs, or why it is refused.
+    // What a set requires under an article, or why it is refused.
+    // The product lets a question carry an article that the book has, with all its legs; a type for that would be made only to be taken apart here.
     fn paired(&self, size: ContractSize, article: u8, legs: &[Record]) -> Result<u64, BookFault>
         requires has { Has (tables self.now) article }
         requires whole { length legs.now ≡ (tables self.now).legs article }

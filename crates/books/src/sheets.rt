@@ -114,7 +114,7 @@ impl Listed for CurrencySheet {
     }
 }
 
-// Either sheet. A docket keeps one type of book, so this is one too, and each answer is its sheet's.
+// Either sheet: the product fixes one enum of the two as a book, since a docket keeps one type of book. Each answer is its sheet's.
 #[derive(Clone, Copy, Debug, PartialEq, Eq)]
 pub enum Sheet {
     Share(ShareSheet),

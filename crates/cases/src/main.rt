@@ -17,6 +17,7 @@ fn answers(rt: &HostRuntime, file: &[u8], expected: &[u8]) -> anyhow::Result<boo
 // Whether the docket that a file describes is written to the same bytes, and refused room for one byte less; None where it describes none.
 fn rewrites(rt: &HostRuntime, file: &[u8]) -> anyhow::Result<Option<bool>> {
     let heap = rt.alloc();
+    // Places for the marks, and how many are filled: reading takes them in this form, which the product fixes.
     let mut marks = [0i64; 32];
     let Ok(contents) = read(file, &mut marks) else {
         return Ok(None);

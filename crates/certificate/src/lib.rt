@@ -1,10 +1,10 @@
 // Certificates: a total, and a floor under every lawful pairing.
 #![tactic(auto)]
 
-ghost use Rattle.std.specs.Prelude.{◌≡◌, ◌*◌, ◌^◌, ◌≤◌, length, pos, ◌*ℤ◌, neg_ℤ, ◌≤ℤ◌, if◌then◌else◌, None, nat_eq};
+ghost use Rattle.std.specs.Prelude.{◌≡◌, ◌*◌, ◌^◌, ◌≤◌, length, pos, if◌then◌else◌, None, nat_eq};
 ghost use Rattle.books.specs.Tables.{Has};
 ghost use Rattle.pairing.specs.Sums.{sum_n};
-ghost use Rattle.pairing.specs.Pairing.{Position, limit, lot, takes, answer, floor};
+ghost use Rattle.pairing.specs.Pairing.{limit, lot, takes, answer, floor};
 ghost use Rattle.pairing.specs.Claims.{legs_of, set_of, taken, Sound};
 ghost use Rattle.breaches.specs.Search.{Limited};
 ghost use Rattle.certificate.specs.Certified.{beyond, first_beyond, certify_reply, Certified};
@@ -14,7 +14,7 @@ use amounts::ContractSize;
 use books::{Book, BookFault};
 use breaches::Breach;
 use fairness::first_breach;
-use pairing::{Claim, at, lot, mark_times};
+use pairing::{Claim, Marked, answer, at, lot, mark_times};
 use positions::{Kind, Record};
 
 // The whole requirement, and a floor under every lawful pairing, in parts.
@@ -32,7 +32,7 @@ pub enum CertifyFault {
     Unfair(Breach),
 }
 
-// So many of each.
+// So many units, sets or contracts, of so much each.
 fn product(count: u64, each: u64) -> u128
     ensures { result ≡ count * each }
 {
@@ -40,7 +40,7 @@ fn product(count: u64, each: u64) -> u128
 }
 
 // At most 64 claims and the positions held, for contracts of a size.
-#[derive(Clone, Copy)]
+#[derive(Clone, Copy, Debug, PartialEq, Eq)]
 pub struct Standing<'a> {
     pub size: ContractSize,
     pub held: &'a [Record],
@@ -87,7 +87,6 @@ impl<'a> Standing<'a> {
 
     // What the claims leave of position `p`.
     pub fn free(&self, p: u64) -> u32
-        requires { Position self.now.held.now p }
         ensures { result ≡ free self.now.size.units self.now.held.now self.now.claims.now p }
     {
         let quantity = u128::from(at(self.held, p).quantity);
@@ -97,6 +96,7 @@ impl<'a> Standing<'a> {
 }
 
 // What a certificate is of: at most 32 positions and the claims standing, with their book.
+// No Model, as for a search in fairness: its value may hold no function, and a book's tables are functions.
 #[derive(Drop)]
 pub struct Account<'a, B> {
     pub book: &'a B,
@@ -105,18 +105,29 @@ pub struct Account<'a, B> {
 }
 
 impl<'a, B: Book> Account<'a, B> {
-    // What the book says of a set of the claim.
+    // What the book says of a set of the claim. It asks what `pairing::answer` asks: a type that holds it would be made only to be taken apart here.
     pub fn answer(&self, l: &Claim) -> Result<u64, BookFault>
         requires has { Has (B.Book.tables self.now.book.now) l.now.article }
         requires whole { length (legs_of l.now) ≡ (B.Book.tables self.now.book.now).legs l.now.article }
         ensures { result ≡ answer (B.Book.tables self.now.book.now) self.now.standing.size.units self.now.standing.held.now (set_of l.now) }
     {
-        let held = self.standing.held;
-        let legs = [at(held, l.first), at(held, l.second), at(held, l.third)];
+        let Standing { size, held, .. } = self.standing;
+        let Claim {
+            article,
+            first,
+            second,
+            third,
+            ..
+        } = *l;
         let count = usize::from(l.legs());
         // The book has the article and numbers its articles by a `u8`, so the cast loses nothing.
-        self.book
-            .paired(self.standing.size, l.article as u8, &legs[..count])
+        answer(
+            self.book,
+            size,
+            held,
+            article as u8,
+            &[first, second, third][..count],
+        )
     }
 
     // What a set of the claim requires.
@@ -153,7 +164,6 @@ impl<'a, B: Book> Account<'a, B> {
 
     // What is free of position `p`, alone.
     fn free_amount(&self, p: u64) -> u128
-        requires { Position self.now.standing.held.now p }
         ensures value { result ≡ free_amount (B.Book.tables self.now.book.now) self.now.standing.size.units self.now.standing.held.now self.now.standing.claims.now p }
         ensures bound { result ≤ 2 ^ 96 }
     {
@@ -194,28 +204,27 @@ impl<'a, B: Book> Account<'a, B> {
                 held: held.len(),
             });
         }
-        if let Some(p) = out_of_limit(held, marks) {
+        let marked = Marked { held, marks };
+        if let Some(p) = out_of_limit(&marked) {
             return Err(CertifyFault::BeyondLimit(p));
         }
-        if let Some(b) = first_breach(self.book, size, held, marks) {
+        if let Some(b) = first_breach(self.book, size, &marked) {
             return Err(CertifyFault::Unfair(b));
         }
         Ok(Certificate {
             total: self.total(),
-            floor: floor(held, marks),
+            floor: floor(&marked),
         })
     }
 }
 
 // The sum of mark × units entered.
-pub fn floor(held: &[Record], marks: &[i64]) -> i128
-    requires marks_len { length marks.now ≡ length held.now }
-    requires held_len_bound { length held.now ≤ 32 }
-    ensures { result ≡ floor held.now marks.now }
+pub fn floor(marked: &Marked) -> i128
+    ensures { result ≡ floor marked.now.held.now marked.now.marks.now }
 {
     // A loop, since the sum is signed and nothing says of a chain that such a sum fits.
     let mut total: i128 = 0;
-    for (record, mark) in held.iter().zip(marks) {
+    for (record, mark) in marked.held.iter().zip(marked.marks) {
         total += mark_times(*mark, record.quantity);
     }
     total
@@ -238,13 +247,14 @@ fn beyond(mark: i64, kind: Kind) -> bool
 }
 
 // The first position whose mark is beyond its limit; where there is none, all marks are within theirs.
-fn out_of_limit(held: &[Record], marks: &[i64]) -> Option<usize>
-    requires { length marks.now ≡ length held.now }
-    ensures value { result ≡ first_beyond held.now marks.now }
-    ensures within { result ≡ None → Limited held.now marks.now }
+fn out_of_limit(marked: &Marked) -> Option<usize>
+    ensures value { result ≡ first_beyond marked.now.held.now marked.now.marks.now }
+    ensures within { result ≡ None → Limited marked.now.held.now marked.now.marks.now }
 {
-    held.iter()
-        .zip(marks)
+    marked
+        .held
+        .iter()
+        .zip(marked.marks)
         .position(|(record, mark)| beyond(*mark, record.kind))
         .map(|place| place + 1)
 }

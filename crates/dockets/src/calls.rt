@@ -1,5 +1,4 @@
 // The calls on a docket. Each takes its input as it is sent, with nothing checked beforehand; a refusal leaves the docket as it was.
-// `book` and `size` say in each what a call leaves as it was, which no ghost field can say.
 ghost use Rattle.std.specs.Prelude.{◌≡◌, true, false, Ok, Err};
 ghost use Rattle.amounts.specs.Ranges.{inside};
 ghost use Rattle.dockets.specs.Tally.{empty};
@@ -45,10 +44,8 @@ impl<B: Book + Drop> Docket<B> {
 
     // Enters a position and answers its number.
     pub fn enter(&mut self, entry: &Entry) -> Result<usize, Refusal>
-        ensures book { self.new.book ≡ self.old.book }
-        ensures size { self.new.size ≡ self.old.size }
         ensures reply { result ≡ enter_reply self.old.size.units self.old.tally entry.now }
-        ensures after { self.new.tally ≡ after_enter self.old.size.units self.old.tally entry.now }
+        ensures after { self.new ≡ record self.old { tally = after_enter self.old.size.units self.old.tally entry.now } }
     {
         let record = Record::new(self.size, entry)?;
         if let Some(i) = find_position(self.positions(), &record) {
@@ -75,10 +72,8 @@ impl<B: Book + Drop> Docket<B> {
 
     // Claims sets under an article and answers those then in its line.
     pub fn claim(&mut self, c: &Claim) -> Result<u64, Refusal>
-        ensures book { self.new.book ≡ self.old.book }
-        ensures size { self.new.size ≡ self.old.size }
         ensures reply { result ≡ claim_reply (B.Book.tables self.old.book) self.old.size.units self.old.tally c.now }
-        ensures after { self.new.tally ≡ after_claim (B.Book.tables self.old.book) self.old.size.units self.old.tally c.now }
+        ensures after { self.new ≡ record self.old { tally = after_claim (B.Book.tables self.old.book) self.old.size.units self.old.tally c.now } }
     {
         self.judge(c)?;
         let Some(i) = find_line(self.claims(), c) else {
@@ -92,10 +87,8 @@ impl<B: Book + Drop> Docket<B> {
 
     // Takes sets back from a line and answers those left; at 0 the line goes.
     pub fn release(&mut self, c: &Claim) -> Result<u64, Refusal>
-        ensures book { self.new.book ≡ self.old.book }
-        ensures size { self.new.size ≡ self.old.size }
         ensures reply { result ≡ release_reply self.old.tally c.now }
-        ensures after { self.new.tally ≡ after_release self.old.tally c.now }
+        ensures after { self.new ≡ record self.old { tally = after_release self.old.tally c.now } }
     {
         sets_ok(c)?;
         let i = find_line(self.claims(), c).ok_or(Refusal::NoSuchClaim)?;

@@ -40,7 +40,7 @@ impl<B> Docket<B> {
         }
     }
 
-    // These with the book.
+    // The positions and the claims, with the book.
     pub(crate) fn account(&self) -> Account<'_, B>
         ensures book { result.book.now ≡ self.now.book }
         ensures size { result.standing.size ≡ self.now.size }

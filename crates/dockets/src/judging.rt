@@ -1,10 +1,10 @@
 // The conditions on a claim and on a release, in the order of their refusals.
-ghost use Rattle.std.specs.Prelude.{◌≡◌, ◌<◌, ◌≤◌, length, OnOk};
+ghost use Rattle.std.specs.Prelude.{◌≡◌, ◌≤◌, length, OnOk};
+ghost use Rattle.amounts.specs.Ranges.{inside};
 ghost use Rattle.books.specs.Tables.{Has};
-ghost use Rattle.pairing.specs.Pairing.{Position, answer};
+ghost use Rattle.pairing.specs.Pairing.{answer};
 ghost use Rattle.pairing.specs.Claims.{legs_of, set_of};
-ghost use Rattle.dockets.specs.Calls.{sets_ok, article_ok, position_ok, third_ok, positions_ok, apart_ok, book_ok, leg_covered, covered_ok, sets_added, sets_left};
-ghost use Rattle.dockets.specs.Tally.{Tally};
+ghost use Rattle.dockets.specs.Calls.{unless, good, sets_ok, article_ok, position_ok, third_ok, positions_ok, apart_ok, book_ok, leg_covered, covered_ok, sets_added, sets_left};
 
 use crate::Refusal;
 use articles::Leg;
@@ -12,22 +12,25 @@ use books::Book;
 use certificate::{Account, Standing};
 use pairing::{Claim, lot};
 
+// Refuses a number that is not from 1 to the most there are.
+fn up_to(most: u64, n: u64, refusal: Refusal) -> Result<(), Refusal>
+    ensures { result ≡ unless (inside 1 most n) refusal good }
+{
+    (1..=most).contains(&n).then_some(()).ok_or(refusal)
+}
+
 // Refuses a number of sets outside 1 to 5,000.
 pub fn sets_ok(c: &Claim) -> Result<(), Refusal>
     ensures { result ≡ sets_ok c.now }
 {
-    if !(1..=5_000).contains(&c.sets) {
-        return Err(Refusal::SetsOutOfRange);
-    }
-    Ok(())
+    up_to(5_000, c.sets, Refusal::SetsOutOfRange)
 }
 
+// Refuses an article that the book has not, and then a number of sets.
 pub fn article_ok(articles: u8, c: &Claim) -> Result<(), Refusal>
     ensures { result ≡ article_ok articles c.now }
 {
-    if !(1..=u64::from(articles)).contains(&c.article) {
-        return Err(Refusal::NoSuchArticle);
-    }
+    up_to(u64::from(articles), c.article, Refusal::NoSuchArticle)?;
     sets_ok(c)
 }
 
@@ -36,34 +39,33 @@ pub fn position_ok(count: usize, leg: Leg, p: u64) -> Result<(), Refusal>
     ensures { result ≡ position_ok count leg p }
 {
     // A cast: a u64 is not made from a usize by From.
-    if !(1..=count as u64).contains(&p) {
-        return Err(Refusal::NoSuchPosition(leg));
-    }
-    Ok(())
+    up_to(count as u64, p, Refusal::NoSuchPosition(leg))
 }
 
-fn third_ok(count: usize, legs: u8, third: u64) -> bool
-    ensures { result ≡ third_ok count legs third }
+// Refuses a third leg beside two; of three, one that is no position.
+fn third_leg_ok(count: usize, legs: u8, third: u64) -> Result<(), Refusal>
+    ensures { result ≡ unless (third_ok count legs third) (Refusal.NoSuchPosition Leg.Third) good }
 {
-    if legs == 2 {
-        third == 0
-    } else {
-        (1..=count as u64).contains(&third)
+    if legs != 2 {
+        return position_ok(count, Leg::Third, third);
     }
-}
-
-pub fn positions_ok(count: usize, legs: u8, c: &Claim) -> Result<(), Refusal>
-    ensures value { result ≡ positions_ok count legs c.now }
-    ensures whole { OnOk result ((2 ≤ legs → legs ≤ 3 → length (legs_of c.now) ≡ legs)) }
-{
-    position_ok(count, Leg::First, c.first)?;
-    position_ok(count, Leg::Second, c.second)?;
-    if !third_ok(count, legs, c.third) {
+    if third != 0 {
         return Err(Refusal::NoSuchPosition(Leg::Third));
     }
     Ok(())
 }
 
+// Refuses the first leg that is no position, and a third leg beside two.
+pub fn positions_ok(count: usize, legs: u8, c: &Claim) -> Result<(), Refusal>
+    ensures value { result ≡ positions_ok count legs c.now }
+    ensures whole { OnOk result (2 ≤ legs → legs ≤ 3 → length (legs_of c.now) ≡ legs) }
+{
+    position_ok(count, Leg::First, c.first)?;
+    position_ok(count, Leg::Second, c.second)?;
+    third_leg_ok(count, legs, c.third)
+}
+
+// Refuses a position that is a leg twice.
 pub fn apart_ok(c: &Claim) -> Result<(), Refusal>
     ensures { result ≡ apart_ok c.now }
 {
@@ -76,7 +78,7 @@ pub fn apart_ok(c: &Claim) -> Result<(), Refusal>
     Ok(())
 }
 
-// What the book says of the set.
+// Refuses what the book refuses. It asks what the book's own question asks, which article_ok and positions_ok have shown: a type that holds it would be made only to be taken apart here.
 pub fn book_ok<B: Book>(account: &Account<B>, c: &Claim) -> Result<(), Refusal>
     requires has { Has (B.Book.tables account.now.book.now) c.now.article }
     requires whole { length (legs_of c.now) ≡ (B.Book.tables account.now.book.now).legs c.now.article }
@@ -88,7 +90,6 @@ pub fn book_ok<B: Book>(account: &Account<B>, c: &Claim) -> Result<(), Refusal>
 
 // Refuses a leg of which too little is free.
 fn leg_covered(standing: &Standing, c: &Claim, leg: Leg, p: u64) -> Result<(), Refusal>
-    requires { Position standing.now.held.now p }
     ensures { result ≡ leg_covered standing.now.size.units (record { held = standing.now.held.now; claims = standing.now.claims.now }) c.now leg p }
 {
     let each = lot(standing.size, standing.held, p);
@@ -98,10 +99,8 @@ fn leg_covered(standing: &Standing, c: &Claim, leg: Leg, p: u64) -> Result<(), R
     Err(Refusal::UnitsShort(leg))
 }
 
+// Refuses the first leg of which too little is free.
 pub fn covered_ok(standing: &Standing, c: &Claim) -> Result<(), Refusal>
-    requires position { Position standing.now.held.now c.now.first }
-    requires position_2 { Position standing.now.held.now c.now.second }
-    requires position_3 { 0 < c.now.third → Position standing.now.held.now c.now.third }
     ensures { result ≡ covered_ok standing.now.size.units (record { held = standing.now.held.now; claims = standing.now.claims.now }) c.now }
 {
     leg_covered(standing, c, Leg::First, c.first)?;

@@ -1,7 +1,7 @@
 // The first breach of fairness.
 #![tactic(auto)]
 
-ghost use Rattle.std.specs.Prelude.{◌≡◌, ℕ, ◌^◌, ◌≤◌, length, pos, ◌*ℤ◌, neg_ℤ, ◌≤ℤ◌, Some, int_lt};
+ghost use Rattle.std.specs.Prelude.{◌≡◌, ◌^◌, length, pos, ◌*ℤ◌, neg_ℤ, ◌≤ℤ◌, Some, int_lt};
 ghost use Rattle.books.specs.Tables.{Has};
 ghost use Rattle.pairing.specs.Pairing.{at, mark, lot, worth, answer, distinct};
 ghost use Rattle.breaches.specs.Search.{legs_in, set_at, alone_breach, set_breach, third_leg, second_leg, first_leg, first_alone, first_article, first_breach, Limited, NoneExactlyIfFair};
@@ -10,18 +10,15 @@ ghost use Rattle.breaches.specs.First.{First};
 use amounts::ContractSize;
 use books::{Book, BookFault};
 use breaches::{Breach, Legs};
-use pairing::{at, lot, mark_times};
-use positions::Record;
+use pairing::{Marked, answer, at, lot, mark, mark_times};
 
-// The positions held, at most 32, with a mark for each, over a book and a contract size.
+// Positions with a mark for each, over a book and a contract size. Both are read by one number, since what is searched for is the number of a position.
+// Tried with a Model: its value may hold no function, and a book's tables are functions.
 #[derive(Drop)]
 struct Search<'a, B: Book> {
     book: &'a B,
     size: ContractSize,
-    held: &'a [Record],
-    marks: &'a [i64],
-    ghost each: { length marks.now ≡ length held.now },
-    ghost few: { length held.now ≤ 32 },
+    marked: Marked<'a>,
 }
 
 // Whether marks pass a requirement.
@@ -44,40 +41,24 @@ fn distinct(legs: Legs) -> bool
 impl<B: Book> Search<'_, B> {
     // The number of positions; they are numbered from 1. At most 32, so the cast loses nothing.
     fn positions(&self) -> u8
-        ensures { result ≡ length self.now.held.now }
+        ensures { result ≡ length self.now.marked.held.now }
     {
-        self.held.len() as u8
-    }
-
-    fn record(&self, position: u8) -> Record
-        ensures { result ≡ at self.now.held.now position }
-    {
-        at(self.held, u64::from(position))
-    }
-
-    // The mark of a position, or 0 where there is none.
-    fn mark(&self, position: u8) -> i64
-        ensures { result ≡ mark self.now.marks.now position }
-    {
-        self.marks
-            .get(usize::from(position.saturating_sub(1)))
-            .copied()
-            .unwrap_or_default()
+        self.marked.held.len() as u8
     }
 
     // The mark of what a set takes of a position.
     fn leg_worth(&self, leg: u8) -> i128
-        ensures value { result ≡ mark self.now.marks.now leg *ℤ pos (lot self.now.size.units self.now.held.now leg) }
+        ensures value { result ≡ mark self.now.marked.marks.now leg *ℤ pos (lot self.now.size.units self.now.marked.held.now leg) }
         ensures low { neg_ℤ (pos (2 ^ 95)) ≤ℤ result }
         ensures high { result ≤ℤ pos (2 ^ 95) }
     {
-        let units = lot(self.size, self.held, u64::from(leg));
-        mark_times(self.mark(leg), u32::from(units))
+        let units = lot(self.size, self.marked.held, u64::from(leg));
+        mark_times(mark(self.marked.marks, u64::from(leg)), u32::from(units))
     }
 
     // The marks of what a set takes.
     fn worth(&self, legs: Legs) -> i128
-        ensures { result ≡ worth self.now.size.units self.now.held.now self.now.marks.now (legs_in legs) }
+        ensures { result ≡ worth self.now.size.units self.now.marked.held.now self.now.marked.marks.now (legs_in legs) }
     {
         let pair = self.leg_worth(legs.first) + self.leg_worth(legs.second);
         // Tried with `map_or`: of a closure called at most once that reads `self`, the proof learns nothing.
@@ -87,8 +68,9 @@ impl<B: Book> Search<'_, B> {
         }
     }
 
+    // The first breach of a set, article by article.
     fn first_article(&self) -> Option<Breach>
-        ensures { result ≡ first_article (B.Book.tables self.now.book.now) self.now.size.units self.now.held.now self.now.marks.now }
+        ensures { result ≡ first_article (B.Book.tables self.now.book.now) self.now.size.units self.now.marked.held.now self.now.marked.marks.now }
     {
         (1..=self.book.articles()).find_map(
             |article|
@@ -105,22 +87,26 @@ impl<B: Book> Search<'_, B> {
 
     // The breach of a position alone, if it is one.
     fn alone_breach(&self, position: u8) -> Option<Breach>
-        ensures { result ≡ alone_breach (B.Book.tables self.now.book.now) self.now.size.units self.now.held.now self.now.marks.now position }
+        ensures { result ≡ alone_breach (B.Book.tables self.now.book.now) self.now.size.units self.now.marked.held.now self.now.marked.marks.now position }
     {
-        let requirement = self.book.alone(self.size, &self.record(position));
-        passes(i128::from(self.mark(position)), requirement).then_some(Breach::Alone { position })
+        let Marked { held, marks, .. } = self.marked;
+        let p = u64::from(position);
+        let requirement = self.book.alone(self.size, &at(held, p));
+        passes(i128::from(mark(marks, p)), requirement).then_some(Breach::Alone { position })
     }
 
+    // The first breach of a position alone.
     fn first_alone(&self) -> Option<Breach>
-        ensures { result ≡ first_alone (B.Book.tables self.now.book.now) self.now.size.units self.now.held.now self.now.marks.now }
+        ensures { result ≡ first_alone (B.Book.tables self.now.book.now) self.now.size.units self.now.marked.held.now self.now.marked.marks.now }
     {
         (1..=self.positions()).find_map(|position| self.alone_breach(position))
     }
 
+    // The first breach: of a position alone, and then of a set.
     fn first_breach(&self) -> Option<Breach>
-        ensures { result ≡ first_breach (B.Book.tables self.now.book.now) self.now.size.units self.now.held.now self.now.marks.now }
+        ensures { result ≡ first_breach (B.Book.tables self.now.book.now) self.now.size.units self.now.marked.held.now self.now.marked.marks.now }
     {
-        // No `or_else`: of a closure in generic code that takes no argument, the proof knows nothing.
+        // Tried with `or_else`: of a closure in generic code that takes no argument, the proof knows nothing.
         match self.first_alone() {
             None => self.first_article(),
             found => found,
@@ -128,7 +114,7 @@ impl<B: Book> Search<'_, B> {
     }
 }
 
-// A search among the sets of one article, which the book has.
+// A search among the sets of one article, which the book has. No Model, as for Search.
 #[derive(Drop)]
 struct Under<'s, 'a, B: Book> {
     search: &'s Search<'a, B>,
@@ -137,27 +123,36 @@ struct Under<'s, 'a, B: Book> {
 }
 
 impl<B: Book> Under<'_, '_, B> {
-    // What the book requires of a set.
+    // What the book says of a set. It asks that all the legs are there: a type that holds it would be made only to be taken apart here.
+    // A match: with two legs there is no third number.
     fn answer(&self, legs: Legs) -> Result<u64, BookFault>
         requires { length (legs_in legs) ≡ (B.Book.tables self.now.search.now.book.now).legs self.now.article }
-        ensures { result ≡ answer (B.Book.tables self.now.search.now.book.now) self.now.search.now.size.units self.now.search.now.held.now (set_at self.now.article legs) }
+        ensures { result ≡ answer (B.Book.tables self.now.search.now.book.now) self.now.search.now.size.units self.now.search.now.marked.held.now (set_at self.now.article legs) }
     {
-        let search = self.search;
-        let records = [
-            search.record(legs.first),
-            search.record(legs.second),
-            search.record(legs.third.unwrap_or(0)),
-        ];
-        let count = if legs.third.is_none() { 2 } else { 3 };
-        search
-            .book
-            .paired(search.size, self.article, &records[..count])
+        let Search { book, size, marked } = *self.search;
+        let first = u64::from(legs.first);
+        let second = u64::from(legs.second);
+        match legs.third {
+            None => answer(book, size, marked.held, self.article, &[first, second]),
+            Some(third) => {
+                let third = u64::from(third);
+                answer(
+                    book,
+                    size,
+                    marked.held,
+                    self.article,
+                    &[first, second, third],
+                )
+            }
+        }
     }
 
-    // The breach of one set, if it is one.
+    // The breach of one set, if it is one. It asks what `answer` asks.
+    // Inlined, so that what the loops around it leave alone is read once, and not for each set.
+    #[inline(always)]
     fn set_breach(&self, legs: Legs) -> Option<Breach>
         requires { length (legs_in legs) ≡ (B.Book.tables self.now.search.now.book.now).legs self.now.article }
-        ensures { result ≡ set_breach (B.Book.tables self.now.search.now.book.now) self.now.search.now.size.units self.now.search.now.held.now self.now.search.now.marks.now self.now.article legs }
+        ensures { result ≡ set_breach (B.Book.tables self.now.search.now.book.now) self.now.search.now.size.units self.now.search.now.marked.held.now self.now.search.now.marked.marks.now self.now.article legs }
     {
         if !distinct(legs) {
             return None;
@@ -167,9 +162,9 @@ impl<B: Book> Under<'_, '_, B> {
         passes(self.search.worth(legs), requirement).then_some(Breach::Set { article, legs })
     }
 
-    // The first breach with the legs before given.
+    // The first breach whose first two legs are given.
     fn third_leg(&self, first: u8, second: u8) -> Option<Breach>
-        ensures { result ≡ third_leg (B.Book.tables self.now.search.now.book.now) self.now.search.now.size.units self.now.search.now.held.now self.now.search.now.marks.now self.now.article first second }
+        ensures { result ≡ third_leg (B.Book.tables self.now.search.now.book.now) self.now.search.now.size.units self.now.search.now.marked.held.now self.now.search.now.marked.marks.now self.now.article first second }
     {
         if self.search.book.legs(self.article) == 2 {
             return self.set_breach(Legs {
@@ -187,37 +182,33 @@ impl<B: Book> Under<'_, '_, B> {
         })
     }
 
+    // The first breach whose first leg is given.
     fn second_leg(&self, first: u8) -> Option<Breach>
-        ensures { result ≡ second_leg (B.Book.tables self.now.search.now.book.now) self.now.search.now.size.units self.now.search.now.held.now self.now.search.now.marks.now self.now.article first }
+        ensures { result ≡ second_leg (B.Book.tables self.now.search.now.book.now) self.now.search.now.size.units self.now.search.now.marked.held.now self.now.search.now.marked.marks.now self.now.article first }
     {
         (1..=self.search.positions()).find_map(|second| self.third_leg(first, second))
     }
 
+    // The first breach of a set of the article.
     fn first_leg(&self) -> Option<Breach>
-        ensures { result ≡ first_leg (B.Book.tables self.now.search.now.book.now) self.now.search.now.size.units self.now.search.now.held.now self.now.search.now.marks.now self.now.article }
+        ensures { result ≡ first_leg (B.Book.tables self.now.search.now.book.now) self.now.search.now.size.units self.now.search.now.marked.held.now self.now.search.now.marked.marks.now self.now.article }
     {
         (1..=self.search.positions()).find_map(|first| self.second_leg(first))
     }
 }
 
 // The first breach of fairness; none exactly where the marks are fair.
-pub fn first_breach<B: Book>(
-    book: &B,
-    size: ContractSize,
-    held: &[Record],
-    marks: &[i64],
-) -> Option<Breach>
-    requires marks_len { (length marks.now ≡ length held.now) × (length held.now ≤ 32) }
-    requires limited { Limited held.now marks.now }
-    ensures value { result ≡ first_breach (B.Book.tables book.now) size.units held.now marks.now }
-    ensures fair { NoneExactlyIfFair (B.Book.tables book.now) size.units held.now marks.now result }
-    ensures first { (b : Breach) → result ≡ Some b → First (B.Book.tables book.now) size.units held.now marks.now b }
+// A function over that of the search, so that its laws follow once, and not anew for each way out of it.
+pub fn first_breach<B: Book>(book: &B, size: ContractSize, marked: &Marked) -> Option<Breach>
+    requires { Limited marked.now.held.now marked.now.marks.now }
+    ensures value { result ≡ first_breach (B.Book.tables book.now) size.units marked.now.held.now marked.now.marks.now }
+    ensures fair { NoneExactlyIfFair (B.Book.tables book.now) size.units marked.now.held.now marked.now.marks.now result }
+    ensures first { (b : Breach) → result ≡ Some b → First (B.Book.tables book.now) size.units marked.now.held.now marked.now.marks.now b }
 {
     let search = Search {
         book,
         size,
-        held,
-        marks,
+        marked: *marked,
     };
     search.first_breach()
 }

@@ -18,7 +18,7 @@ use Rattle.runs.specs.declared.Call.{Call}
 use Rattle.runs.specs.declared.Call.TheVariants.{Enter, Claim as ClaimCall}
 use Rattle.runs.specs.Runs.{after}
 use Rattle.runs.specs.Laws.{Led}
-use Rattle.runs.proofs.Passed.{unless_ok}
+use Rattle.runs.proofs.Passed.{unless_ok, if_good_ok}
 use Rattle.runs.proofs.Prefixes.{ran_push}
 use Rattle.replays.proofs.Records.{made}
 use Rattle.text.specs.declared.BadField.{BadField}
@@ -88,10 +88,6 @@ mark_last held claims marks z =
 
 -- ---- a reply, taken apart
 
-if_good_lem : {A : Type 0} (v : call.Verdict) (r : Result A Refusal) (x : A) → call.if_good v r ≡ Ok x → r ≡ Ok x
-if_good_lem (Ok tt) r x h = h
-if_good_lem (Err e) r x h = absurd cc
-
 is_none : (o : Option ℕ) → is_some o ≡ false → o ≡ None
 is_none None h = refl
 is_none (Some i) h = absurd cc
@@ -129,7 +125,7 @@ module _ (t : Tables) (size : ℕ) (small : size ≤ 1000) (b d : Body) where
   claim_made c (Err x) granted due fresh h = absurd cc
   claim_made c (Ok n) granted due fresh h =
       let ls = b.tally.claims in
-      let line : call.line_reply ls None c ≡ Ok n = ap (λ o. call.line_reply ls o c) (sym fresh) ∙ if_good_lem (call.claim_judged t size b.tally c) _ n granted in
+      let line : call.line_reply ls None c ≡ Ok n = ap (λ o. call.line_reply ls o c) (sym fresh) ∙ (if_good_ok (call.claim_judged t size b.tally c) _ n granted).1 in
       let sets : c.sets ≡ n = same_sets c.sets n (unless_ok (ltb (length ls) 64) _ _ n line).1 in
       let new : call.put ls (line_like ls c) c n ≡ ls ++ (c ∷ []) = ap (λ o. call.put ls o c n) fresh ∙ ap (λ k. call.put ls None c k) (sym sets) in
       let i : body_of (call.claimed b.tally c (Ok n)) b.marks ≡ d = cc in

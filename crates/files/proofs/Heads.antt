@@ -1,5 +1,5 @@
 -- Lines of a key and one field, and the head of a file.
-use Rattle.std.proofs.Common.{◌≡◌, ℕ, ◌+◌, ◌≤◌, Bool, true, false, cond, leb, List, [], ◌∷◌, ◌++◌, length, take, drop, Some, None, Ok, Err, codes, decimal, Option, Result, sym, refl, ap, ◌∙◌, subst, arith}
+use Rattle.std.proofs.Common.{◌≡◌, ℕ, ◌+◌, ◌≤◌, Bool, true, false, cond, leb, List, [], ◌∷◌, ◌++◌, length, take, drop, Some, None, Ok, Err, codes, Option, Result, sym, refl, ap, ◌∙◌, subst, arith}
 use Rattle.std.specs.List.{join_with_byte}
 use Rattle.std.specs.Result.{result_map_both}
 use Rattle.std.specs.Str.{bytes_eq}
@@ -28,7 +28,7 @@ use Rattle.reader.specs.Faults.{from_field}
 use Rattle.reader.specs.Lines.{strip, after_key, single, value_of, line_gives, value_line}
 use Rattle.reader.specs.Rates.{Rates, share, currency, rates_on}
 use Rattle.reader.specs.Head.{judged, sheet_named, sheet_at, Head, with_size, sized, size_at, head_at}
-use Rattle.writing.specs.Texts.{line, sheet_lines, size_line, reduced_text, rate_text}
+use Rattle.writing.specs.Texts.{line, sheet_lines, size_line}
 use Rattle.files.proofs.Parts.{AtLeast, at_least, EachAtLeast, least, least_append, least_rejoined}
 use Rattle.files.proofs.Again.{Reads}
 use Rattle.files.proofs.Numbers.{Small, reads_natural}

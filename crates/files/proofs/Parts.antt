@@ -1,15 +1,9 @@
 -- Pieces that a byte parts, put together and parted again.
 use Rattle.std.proofs.Common.{◌≡◌, ℕ, ◌<◌, ◌≤◌, Bool, true, false, cond, ◌&&◌, eqb, leb, List, [], ◌∷◌, ◌++◌, refl, ap, ◌∙◌, append_assoc, arith}
 use Rattle.std.proofs.lemmas.Bool.{eq-eqb, ne_eqb, leb-true, and_parts}
-use Rattle.std.proofs.lemmas.List.Splits.{join_with_byte-slice_split}
 use Rattle.std.specs.List.{flat_map, join_with_byte, onto_first}
 use Rattle.text.specs.Fields.{split}
 use Rattle.writing.specs.Texts.{ended}
-
--- ---- parted and put together
-
-pub rejoin : (s : ℕ) (bs : List ℕ) → join_with_byte s (split s bs) ≡ bs
-rejoin s bs = join_with_byte-slice_split s bs
 
 -- ---- put together and parted
 

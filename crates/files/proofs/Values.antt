@@ -2,12 +2,13 @@
 use Rattle.std.proofs.Common.{◌≡◌, ℕ, ◌+◌, List, [], ◌∷◌, length, Some, None, Ok, decimal, Option, Result, sym, refl, ap, ◌∙◌, subst, arith}
 use Rattle.std.specs.List.{join_with_byte}
 use Rattle.std.specs.Option.{ok_or}
+use Rattle.std.proofs.lemmas.List.Splits.{join_with_byte-slice_split}
 use Rattle.positions.specs.declared.Entry.{Entry}
 use Rattle.pairing.specs.declared.Claim.{Claim}
 use Rattle.text.specs.declared.BadField.{BadField}
 use Rattle.text.specs.Fields.{split, got, and_then, bad_at, field_at, end_at, one_field}
 use Rattle.reading.specs.Values.{entry_at, claim_at}
-use Rattle.files.proofs.Parts.{rejoin, split_rejoined, EachAtLeast}
+use Rattle.files.proofs.Parts.{split_rejoined, EachAtLeast}
 use Rattle.files.proofs.Again.{Reads}
 use Rattle.files.proofs.Numbers.{Small, reads_natural}
 use Rattle.files.proofs.Words.{Upper, letter_text, reads_letter}
@@ -49,7 +50,7 @@ module _ {A : Type 0} {reads : List ℕ → Option A} {text : A → List ℕ} {G
   one_read p v x e =
       let a = field_read p (split 44 v) end_at x e in
       let z = end_read a.value x a.place a.left a.rest in
-      record { text_is = ap (join_with_byte 44) (ap (λ y. text y ∷ []) (sym z.1) ∙ a.joined [] (sym z.0)) ∙ rejoin 44 v; good = subst Good z.1 a.good }
+      record { text_is = ap (join_with_byte 44) (ap (λ y. text y ∷ []) (sym z.1) ∙ a.joined [] (sym z.0)) ∙ join_with_byte-slice_split 44 v; good = subst Good z.1 a.good }
 
   pub one_given : (p : ℕ) (x : A) → Good x → one_field reads p (split 44 (text x)) ≡ Ok x
   one_given p x g = ap (one_field reads p) (split_rejoined 44 45 (omega arith) (text x) [] (R.bytes x g, tt)) ∙ given x g p [] end_at
@@ -78,7 +79,7 @@ entry_read p v e h =
     let z = end_read _ e quantity.place quantity.left quantity.rest in
     ap (λ x. join_with_byte 44 (entry_texts x)) (sym z.1)
     ∙ ap (join_with_byte 44) (side.joined _ (kind.joined _ (strike.joined _ (days.joined _ (price.joined _ (quantity.joined [] (sym z.0)))))))
-    ∙ rejoin 44 v
+    ∙ join_with_byte-slice_split 44 v
 
 pub entry_bytes : (e : Entry) → GoodEntry e → EachAtLeast 45 (entry_texts e)
 entry_bytes e g =
@@ -116,7 +117,7 @@ claim_read p v c h =
     let z = end_read _ c sets.place sets.left sets.rest in
     ap (λ x. join_with_byte 44 (claim_texts x)) (sym z.1)
     ∙ ap (join_with_byte 44) (article.joined _ (first.joined _ (second.joined _ (third.joined _ (sets.joined [] (sym z.0))))))
-    ∙ rejoin 44 v
+    ∙ join_with_byte-slice_split 44 v
 
 pub claim_bytes : (c : Claim) → GoodClaim c → EachAtLeast 45 (claim_texts c)
 claim_bytes c g =

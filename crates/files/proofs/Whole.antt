@@ -2,15 +2,13 @@
 use Rattle.std.proofs.Common.{◌≡◌, ℕ, ◌≤◌, true, List, [], ◌∷◌, ◌++◌, length, ℤ, IfOk, Ok, Err, Result, sym, refl, ap, ◌∙◌, subst, append_assoc, arith}
 use Rattle.std.specs.List.{join_with_byte}
 use Rattle.std.specs.Result.{result_map_both}
+use Rattle.std.proofs.lemmas.List.Splits.{join_with_byte-slice_split}
 use Rattle.amounts.specs.Ranges.{inside}
-use Rattle.market.specs.Share.{share_quote, shares_on}
-use Rattle.market.specs.Currency.{currency_quote, currency_on}
-use Rattle.market.specs.Limits.{share_limits, currency_limits}
 use Rattle.books.specs.declared.sheets.Sheet.{Sheet}
 use Rattle.books.specs.declared.sheets.Sheet.TheVariants as sheet
-use Rattle.books.specs.Books.{sheet_tables, share_article, currency_article}
-use Rattle.books.specs.Tables.{Tables, Lawful}
-use Rattle.books.specs.Lawful.{lawful_over}
+use Rattle.books.specs.Books.{sheet_tables}
+use Rattle.books.specs.Tables.{Tables}
+use Rattle.books.specs.Lawful.{sheet_lawful}
 use Rattle.dockets.specs.Tally.{Tally}
 use Rattle.runs.specs.Laws.{Led}
 use Rattle.replays.proofs.Runs.{led_kept, replay}
@@ -22,7 +20,7 @@ use Rattle.reading.specs.Body.{Body, no_body, body_from}
 use Rattle.reading.specs.Files.{Content, with_head, read_pieces, read_file}
 use Rattle.writing.specs.Texts.{size_line, sheet_lines, file_lines, file_text}
 use Rattle.files.specs.Faithful.{content_of, FileMarks, Faithful}
-use Rattle.files.proofs.Parts.{rejoin, each_append, ended_rejoined, split_ended}
+use Rattle.files.proofs.Parts.{each_append, ended_rejoined, split_ended}
 use Rattle.files.proofs.Heads.{in_size, HeadRead, head_read, GoodRates, good_rates, head_given, size_bytes, sheet_bytes}
 use Rattle.files.proofs.Growing.{body_of, body_lines, body_read}
 use Rattle.files.proofs.Coming.{Comes, body_comes}
@@ -64,13 +62,9 @@ file_read : (file : List ℕ) (c : Content) → read_file file ≡ Ok c → File
 file_read file c e = pieces_read (split 10 file) c (head_at 1 (split 10 file)) refl e
 
 rewritten : (file : List ℕ) (c : Content) → read_file file ≡ Ok c → file_text c ≡ file
-rewritten file c e = ended_rejoined (file_lines c) ∙ ap (join_with_byte 10) (sym (file_read file c e).is) ∙ rejoin 10 file
+rewritten file c e = ended_rejoined (file_lines c) ∙ ap (join_with_byte 10) (sym (file_read file c e).is) ∙ join_with_byte-slice_split 10 file
 
 -- ---- written
-
-pub sheet_lawful : (s : Sheet) → Lawful (sheet_tables s)
-sheet_lawful (sheet.Share s) = lawful_over 6 share_article (share_quote (shares_on s)) (omega arith) (omega arith) (share_limits s)
-sheet_lawful (sheet.Currency c) = lawful_over 5 currency_article (currency_quote (currency_on c)) (omega arith) (omega arith) (currency_limits c)
 
 pub sheet_tables_lem : (s : Sheet) → sheet_tables s ≡ tables_by (rates_on s)
 sheet_tables_lem (sheet.Share s) = refl

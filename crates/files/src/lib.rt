@@ -12,6 +12,7 @@ use reader::faults::ReadFault;
 use reading::{Contents, read};
 
 // The docket that a file describes, with its marks in the first places; a fault leaves the places as they were.
+// The marks are the caller's array, with a count beside it: the product leaves the places after them as they were.
 // A function of its own, since its laws speak of writing too: what is read, written again, is the file; and a docket that calls led to is read back from its text.
 pub fn load(file: &[u8], marks: &mut [i64; 32]) -> Result<Contents, ReadFault>
     ensures value { result_map_both (λ x. contents_of x marks.new) (λ e. e) result ≡ read_file file.now }

@@ -18,7 +18,7 @@ pub use share_sheet::ShareSheet;
 use std::error::Error;
 use std::fmt;
 
-// Its answers never change.
+// What a market says of one unit of its underlying: its price, what it requires, and the rates of what stands on it. Its answers never change.
 pub trait Market {
     ghost quote: { Self → Quote };
 

@@ -1,6 +1,5 @@
-ghost use Rattle.std.specs.Prelude.{◌≡◌, ◌≤◌};
+ghost use Rattle.std.specs.Prelude.{◌≡◌};
 ghost use Rattle.std.specs.Result.{result_map_both};
-ghost use Rattle.amounts.specs.Rates.{points};
 ghost use Rattle.market.specs.Share.{row_at, shares_on, sheet_of, share_quote};
 ghost use Rattle.market.specs.Limits.{share_limits};
 

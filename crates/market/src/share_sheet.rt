@@ -14,7 +14,7 @@ pub struct ShareSheet {
 }
 
 // A row of the table by price: the long percentage, and the short requirement of one unit.
-#[derive(Clone, Copy)]
+#[derive(Clone, Copy, Debug, PartialEq, Eq)]
 pub struct Row {
     pub long_rate: Rate,
     pub short: UnitAmount,

@@ -24,7 +24,7 @@ price_top Put = omega arith
 price_top Futures = omega arith
 price_top Receipt = omega arith
 
-holds_high : (r : Range) (n : ℕ) → holds r n ≡ true → n ≤ r.high
+pub holds_high : (r : Range) (n : ℕ) → holds r n ≡ true → n ≤ r.high
 holds_high r n h = leb-true n r.high (and_parts (nat_le r.low n) (nat_le n r.high) h).1
 
 pub strike_high : (side : Side) (kind : Kind) (strike days price : ℕ) → in_range side kind strike days price ≡ true → strike ≤ 500000

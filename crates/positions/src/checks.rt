@@ -13,7 +13,7 @@ use amounts::{Cents, ContractSize};
 pub fn quantity_range(size: ContractSize, kind: Kind) -> Range
     ensures value { result ≡ quantity_range size.units kind }
     ensures some { 1 ≤ result.low }
-    // A number of its own, the highest quantity.
+    // A clause and no type: the highest quantity is a number of its own.
     ensures bound { result.high ≤ 5000000 }
 {
     match kind {

@@ -63,7 +63,7 @@ pub struct Entry {
 }
 
 // The lowest and the highest number that a field may hold.
-// A range of its own: a definition cannot name the type `RangeInclusive`, and each contract would say its two ends and that none is spent.
+// A range of its own: a definition cannot make a `RangeInclusive`, whose fields are the library's own.
 #[derive(Clone, Copy, Debug, PartialEq, Eq)]
 pub struct Range {
     pub low: u64,
@@ -80,7 +80,7 @@ impl Field {
 }
 
 impl RecordFault {
-    // The number by which the refusal is known: a match, since the fault holds a field.
+    // The number by which the refusal is known, which the file format fixes; a variant with data has no discriminant.
     pub fn number(self) -> u8
         ensures { result ≡ refusal_number self }
     {
@@ -128,7 +128,7 @@ fn from_to(low: u64, high: u64) -> Range
 // A strike, in cents a unit: options have one.
 pub fn strike_range(kind: Kind) -> Range
     ensures value { result ≡ strike_range kind }
-    // A number of its own, the highest strike.
+    // A clause and no type: the highest strike is a number of its own.
     ensures bound { result.high ≤ 500000 }
 {
     match kind {
@@ -140,7 +140,7 @@ pub fn strike_range(kind: Kind) -> Range
 // The days to expiry: options and futures expire.
 pub fn day_range(kind: Kind) -> Range
     ensures value { result ≡ day_range kind }
-    // A number of its own, the most days.
+    // A clause and no type: the most days are a number of their own.
     ensures bound { result.high ≤ 4000 }
 {
     match kind {
@@ -152,7 +152,7 @@ pub fn day_range(kind: Kind) -> Range
 // A price, in cents a unit: an option's premium, or the daily settlement of futures.
 pub fn price_range(kind: Kind) -> Range
     ensures value { result ≡ price_range kind }
-    // A number of its own, the highest price.
+    // A clause and no type: the highest price is a number of its own.
     ensures bound { result.high ≤ 500000 }
 {
     match kind {

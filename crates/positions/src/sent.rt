@@ -5,7 +5,7 @@ ghost use Rattle.positions.specs.Texts.{entry_text};
 use crate::Entry;
 use std::fmt;
 
-// Six fields, with commas between them, as a record's: a function for both would take the six one by one, and be no shorter.
+// Six fields, with commas between them, as a record's. Each prints its own, a record's side and kind by their types: a function for both would take the six one by one.
 impl fmt::Display for Entry {
     ghost output = { λ e. Some (entry_text e) };
 

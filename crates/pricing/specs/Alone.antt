@@ -45,5 +45,6 @@ by_kind q size o kind.Put = option_alone q size Put o
 by_kind q size o kind.Futures = futures q size o.price
 by_kind q size o kind.Receipt = 0
 
+-- one unit, or one contract, of a position, by its kind
 abbrev pub alone : Quote → ℕ → Terms → ℕ
 alone q size o = by_kind q size o o.kind

@@ -1,9 +1,10 @@
--- The kind of position that gives a right.
+-- Rights, and the kinds of position that give them.
 use Rattle.positions.specs.declared.Kind.{Kind}
 use Rattle.positions.specs.declared.Kind.TheVariants as kind
 use Rattle.pricing.specs.declared.Right.{Right}
 use Rattle.pricing.specs.declared.Right.TheVariants.{Call, Put}
 
+-- the right to buy is a call's, the right to sell a put's
 abbrev pub kind_of_right : Right → Kind
 kind_of_right Call = kind.Call
 kind_of_right Put = kind.Put

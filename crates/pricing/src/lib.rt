@@ -83,7 +83,7 @@ pub fn time_value(premium: Cents, in_the_money: Cents) -> Cents
     above(premium, in_the_money)
 }
 
-// The time value that counts, in parts: all of it, and half of it from 270 days up.
+// The time value that counts, in parts: all of it, and half of it from 270 days up. Its bound is a clause, as those of the products are.
 pub fn counted_time_value(time_value: Cents, days: u16) -> u64
     ensures value { result ≡ counted_time_value time_value.amount days }
     ensures bound { result ≤ 5000000000 }
@@ -129,7 +129,7 @@ impl<M: Market> Contract<'_, M> {
         )
     }
 
-    // A short option's second amount: the premium and the floor rate, of the price for a call, of the strike for a put.
+    // A short option's second amount: the premium and the floor rate, of the price for a call, of the strike for a put. Its bound is a clause likewise.
     pub fn floor_amount(&self, right: Right, option: &Record) -> u64
         ensures value { result ≡ floor_amount self.now.quote self.now.size right (terms option.now) }
         ensures bound { result ≤ 10000000000000 }
@@ -157,10 +157,10 @@ impl<M: Market> Contract<'_, M> {
     pub fn futures_alone(&self, settlement: Cents) -> u64
         ensures { result ≡ futures self.now.quote self.now.size settlement.amount }
     {
-        let required = match self.market.futures_rate() {
-            Some(rate) => rate.of(settlement),
-            None => settlement.parts(),
-        };
+        let required = self
+            .market
+            .futures_rate()
+            .map_or(settlement.parts(), |rate| rate.of(settlement));
         self.size.times(UnitAmount { parts: required })
     }
 
@@ -174,7 +174,7 @@ impl<M: Market> Contract<'_, M> {
         }
     }
 
-    // What one unit, or one contract, of a position requires alone.
+    // What one unit, or one contract, of a position requires alone. A match: each kind has its own rule.
     pub fn alone(&self, position: &Record) -> u64
         ensures { result ≡ alone self.now.quote self.now.size (terms position.now) }
     {

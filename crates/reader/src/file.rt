@@ -3,7 +3,8 @@ ghost use Rattle.std.specs.Prelude.{◌≡◌, ◌+◌, ◌≤◌, length, drop}
 
 // Where reading stands in a file: the byte that comes next, from 0, and its line, from 1.
 // A slice with a place beside it: the product reads a file in this form.
-#[derive(Clone, Copy)]
+// Tried with a Model: a struct with a lifetime and a model is refused as Copy, which this is.
+#[derive(Clone, Copy, Debug, PartialEq, Eq)]
 pub struct Reader<'a> {
     pub(crate) file: &'a [u8],
     pub(crate) at: usize,

@@ -63,7 +63,7 @@ fn currency_sheet(reader: &mut Reader) -> Result<CurrencySheet, ReadFault>
     CurrencySheet::new(price, spot).map_err(|fault| ReadFault::on(last, fault))
 }
 
-// The market's name, and its sheet.
+// The market's name, and its sheet: a match, since each market has its own lines.
 fn read_sheet(reader: &mut Reader) -> Result<Sheet, ReadFault>
     ensures { got (result_map_both rates_on (λ e. e) result) reader.new.line (pieces reader.new) ≡ sheet_at reader.old.line (pieces reader.old) }
 {

@@ -18,9 +18,10 @@ impl<'a> Reader<'a> {
         if rest.is_empty() {
             return Ok(None);
         }
-        let Some(n) = rest.iter().position(|b| *b == b'\n') else {
-            return Err(ReadFault::on(self.line, LineCause::NoLine));
-        };
+        let n = rest
+            .iter()
+            .position(|b| *b == b'\n')
+            .ok_or(ReadFault::on(self.line, LineCause::NoLine))?;
         self.at += n + 1;
         self.line += 1;
         Ok(Some(&rest[..n]))
@@ -28,7 +29,7 @@ impl<'a> Reader<'a> {
 }
 
 // The value of a line of a key and one field.
-// The bound on a key stands here and at value_line: two functions share it, and no type.
+// The bound on a key stands here and at value_line: a type for it would be longer than the two clauses.
 fn value_of<T: Value + Drop>(line: &[u8], key: &[u8]) -> Result<T, LineFault>
     requires { length key.now ≤ 99 }
     ensures { result ≡ value_of T.Value.reads key.now line.now }
@@ -38,7 +39,7 @@ fn value_of<T: Value + Drop>(line: &[u8], key: &[u8]) -> Result<T, LineFault>
 }
 
 // The value of the next line, which is to be a key and one field.
-// What it reads is kept shut for those that read many lines in a row.
+// Those that call it many times in a row need its definition only as a name, so it is unfolded here alone.
 #[tactic(auto, unfolding(crate::specs::Lines::value_line))]
 pub fn value_line<T: Value + Drop>(reader: &mut Reader, key: &[u8]) -> Result<T, ReadFault>
     requires { length key.now ≤ 99 }

@@ -1,5 +1,5 @@
 // One line after the head, taken into what came before: a function for each key, since they share only the test of what is due.
-// `book` and `size` say in each what a line leaves as it was, which no ghost field can say.
+// `kept` says in each what a line leaves as it was, which no ghost field can say.
 ghost use Rattle.std.specs.Prelude.{◌≡◌};
 ghost use Rattle.books.specs.Books.{sheet_tables};
 ghost use Rattle.reading.specs.Body.{position_taken, claim_taken, mark_taken, line_taken};
@@ -13,8 +13,7 @@ use text::values::one_field;
 impl Gathered {
     // A position, before any claim and any mark.
     fn take_position(&mut self, value: &[u8]) -> Result<(), LineFault>
-        ensures book { self.new.docket.book ≡ self.old.docket.book }
-        ensures size { self.new.docket.size ≡ self.old.docket.size }
+        ensures kept { self.new.docket ≡ record self.old.docket { tally = self.new.docket.tally } }
         ensures body { leaving result (body_in self.new) ≡ position_taken self.old.docket.size.units (body_in self.old) value.now }
     {
         if !self.docket.claims().is_empty() || !self.marks.is_empty() {
@@ -26,8 +25,7 @@ impl Gathered {
 
     // A claim, before any mark.
     fn take_claim(&mut self, value: &[u8]) -> Result<(), LineFault>
-        ensures book { self.new.docket.book ≡ self.old.docket.book }
-        ensures size { self.new.docket.size ≡ self.old.docket.size }
+        ensures kept { self.new.docket ≡ record self.old.docket { tally = self.new.docket.tally } }
         ensures body { leaving result (body_in self.new) ≡ claim_taken (sheet_tables self.old.docket.book) self.old.docket.size.units (body_in self.old) value.now }
     {
         if !self.marks.is_empty() {
@@ -43,8 +41,7 @@ impl Gathered {
 
     // A mark, the 32nd at most.
     fn take_mark(&mut self, value: &[u8]) -> Result<(), LineFault>
-        ensures book { self.new.docket.book ≡ self.old.docket.book }
-        ensures size { self.new.docket.size ≡ self.old.docket.size }
+        ensures kept { self.new.docket ≡ self.old.docket }
         ensures body { leaving result (body_in self.new) ≡ mark_taken (body_in self.old) value.now }
     {
         if self.marks.is_full() {
@@ -54,11 +51,10 @@ impl Gathered {
         Ok(())
     }
 
-    // One line, by its key.
+    // One line, by its key: tests of the prefix in turn, since each key has its own value.
     #[tactic(auto, unfolding(crate::specs::Body::line_taken))]
     pub fn take_line(&mut self, line: &[u8]) -> Result<(), LineFault>
-        ensures book { self.new.docket.book ≡ self.old.docket.book }
-        ensures size { self.new.docket.size ≡ self.old.docket.size }
+        ensures kept { self.new.docket ≡ record self.old.docket { tally = self.new.docket.tally } }
         ensures body { leaving result (body_in self.new) ≡ line_taken (sheet_tables self.old.docket.book) self.old.docket.size.units (body_in self.old) line.now }
     {
         if let Some(value) = line.strip_prefix(b"pos=") {

@@ -26,10 +26,9 @@ pub struct Contents {
 }
 
 // Takes all lines that are left.
-// `book` and `size` say what they leave as it was, which no ghost field can say.
+// `kept` says what they leave as it was, which no ghost field can say.
 fn take_lines(reader: &mut Reader, gathered: &mut Gathered) -> Result<(), ReadFault>
-    ensures book { gathered.new.docket.book ≡ gathered.old.docket.book }
-    ensures size { gathered.new.docket.size ≡ gathered.old.docket.size }
+    ensures kept { gathered.new.docket ≡ record gathered.old.docket { tally = gathered.new.docket.tally } }
     ensures body { leaving result (body_in gathered.new) ≡ body_from (sheet_tables gathered.old.docket.book) gathered.old.docket.size.units reader.old.line (body_in gathered.old) (pieces reader.old) }
 {
     let mut line = reader.line();

@@ -1,19 +1,18 @@
 -- The entry that made a record is the one that makes it again.
-use Rattle.std.proofs.Common.{◌≡◌, ℕ, ◌≤◌, Bool, true, false, cond, leb, Some, None, Ok, Err, Option, Result, refl, ap, ◌∙◌, arith}
+use Rattle.std.proofs.Common.{◌≡◌, ℕ, ◌≤◌, Bool, true, false, cond, Some, None, Ok, Err, Option, Result, refl, ap, ◌∙◌, arith}
 use Rattle.std.proofs.lemmas.Bool.Decides.{nat_tests}
-use Rattle.std.proofs.lemmas.Bool.{leb-true, and_parts}
+use Rattle.std.proofs.lemmas.Option.{cond_some}
 use Rattle.positions.specs.declared.Side.{Side}
 use Rattle.positions.specs.declared.Side.TheVariants.{Long, Short}
 use Rattle.positions.specs.declared.Kind.{Kind}
 use Rattle.positions.specs.declared.Kind.TheVariants.{Units, Call, Put, Futures, Receipt}
 use Rattle.positions.specs.declared.Entry.{Entry}
-use Rattle.positions.specs.declared.Range.{Range}
 use Rattle.positions.specs.declared.RecordFault.{RecordFault}
 use Rattle.positions.specs.declared.record.Record.{Record}
 use Rattle.positions.specs.Letters.{side_of, kind_of, side_letter, kind_letter, sided, on_side, kind_for}
 use Rattle.positions.specs.Ranges.{holds, strike_range, day_range, price_range, quantity_range, in_range}
 use Rattle.positions.specs.Records.{decide, judged, ranged, kinds_of, sides_of, record_of}
-use Rattle.positions.specs.Bounds.{strike_high, price_high}
+use Rattle.positions.specs.Bounds.{holds_high, strike_high, price_high}
 use Rattle.replays.specs.Entries.{entry_of}
 
 -- ---- letters
@@ -29,22 +28,15 @@ kind_letter_lem c Put e = grind (arith, nat_tests)
 kind_letter_lem c Futures e = grind (arith, nat_tests)
 kind_letter_lem c Receipt e = grind (arith, nat_tests)
 
-kept : (b : Bool) (j k : Kind) → cond b (Some j) None ≡ Some k → j ≡ k
-kept true j k e = cc
-kept false j k e = cc
-
 on_side_lem : (side : Side) (o : Option Kind) (k : Kind) → on_side side o ≡ Some k → o ≡ Some k
 on_side_lem side None k e = cc
-on_side_lem side (Some j) k e = let same = kept (sided side j) j k e in cc
+on_side_lem side (Some j) k e = let same = (cond_some (sided side j) j k e).1 in cc
 
 -- ---- numbers
 
 passed : (b : Bool) (v : Result (Unit {0}) RecordFault) (f : RecordFault) → cond b v (Err f) ≡ Ok tt → (b ≡ true) × (v ≡ Ok tt)
 passed true v f e = (refl, e)
 passed false v f e = cc
-
-high : (r : Range) (n : ℕ) → holds r n ≡ true → n ≤ r.high
-high r n h = leb-true n r.high (and_parts (leb r.low n) (leb n r.high) h).1
 
 days_top : (k : Kind) → (day_range k).high ≤ 4000
 days_top Units = omega arith
@@ -71,8 +63,8 @@ small size few e k h =
     let c = passed (holds (price_range k) e.price) _ _ b.1 in
     let d = passed (holds (quantity_range size k) e.quantity) _ _ c.1 in
     record {
-      days = omega (arith, high (day_range k) e.days b.0, days_top k);
-      quantity = omega (arith, high (quantity_range size k) e.quantity d.0, quantity_top size k few);
+      days = omega (arith, holds_high (day_range k) e.days b.0, days_top k);
+      quantity = omega (arith, holds_high (quantity_range size k) e.quantity d.0, quantity_top size k few);
     }
 
 -- ---- the record

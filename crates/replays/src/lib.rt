@@ -7,7 +7,7 @@ ghost use Rattle.replays.specs.Replay.{Replay};
 
 use positions::{Entry, Record};
 
-// The entry that makes a position again. A function and no `From`: a law has to be named by a public contract.
+// The entry that makes a position again. A function and no `From`, which would be no plainer: it would stand in `positions`, which does not know this law, and the law needs a public contract of its own.
 // What a docket holds after any calls is granted again: its positions in their order and then its lines in theirs, each as it stands.
 pub fn entry_of(record: &Record) -> Entry
     ensures value { result ≡ entry_of «record».now }

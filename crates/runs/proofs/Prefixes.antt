@@ -3,6 +3,7 @@ use Rattle.std.proofs.Common.{◌≡◌, ℕ, ◌+◌, ◌<◌, List, [], ◌∷
 use Rattle.std.proofs.lemmas.List.{take_more, take_more_set}
 use Rattle.books.specs.Tables.{Tables, Lawful}
 use Rattle.dockets.specs.Tally.{Tally, empty}
+use Rattle.dockets.specs.Dockets.{Docket}
 use Rattle.runs.specs.declared.Call.{Call}
 use Rattle.runs.specs.Runs.{Reply, reply_to, after, ran, replies}
 use Rattle.runs.specs.Laws.{Holds, Onward, served, Ran}
@@ -40,12 +41,12 @@ onward t law s y z k e led =
     let there : z ≡ ran t s empty cs = e ∙ ap (λ (w : Tally). after t s w k) led.1 ∙ sym (ran_push t s empty led.0 k) in
     (subst (λ (w : Tally). Holds t s w) (sym there) (runs_hold t s cs law), (cs, there))
 
--- the same call, at a book and a size that are equal
-module _ {K : Type 0} (T : K → Tables) {b c : K} {s r : ℕ} (p : b ≡ c) (q : s ≡ r) {y w : Tally} (e : y ≡ w) (k : Call) where
-  pub after_same : (z : Tally) → z ≡ after (T b) s y k → z ≡ after (T c) r w k
+-- the same call, at dockets that are equal
+module _ {K : Type 0} (T : K → Tables) {d e : Docket K} (p : d ≡ e) (k : Call) where
+  pub after_same : (z : Docket K) → z ≡ record d { tally = after (T d.book) d.size.units d.tally k } → z ≡ record e { tally = after (T e.book) e.size.units e.tally k }
   after_same z h = cc
 
-  pub reply_same : (a : Reply) → a ≡ reply_to (T b) s y k → a ≡ reply_to (T c) r w k
+  pub reply_same : (a : Reply) → a ≡ reply_to (T d.book) d.size.units d.tally k → a ≡ reply_to (T e.book) e.size.units e.tally k
   reply_same a h = cc
 
 -- a run from a docket just opened

@@ -1,5 +1,4 @@
 // Runs of calls on a docket, and what holds after each call.
-// `book` and `size` say in each what the calls leave as it was, which no ghost field can say.
 #![tactic(auto)]
 
 ghost use Rattle.std.specs.Prelude.{◌≡◌, true, false, ◌++◌, take, drop, Ok, Err};
@@ -40,12 +39,10 @@ pub enum Granted {
 // The reply to a call: what is granted, or the refusal.
 pub type Reply = Result<Granted, Refusal>;
 
-// One call, whichever it is. It stands apart from `serve`, whose law then follows once, and not anew for each of eleven replies.
+// One call, by a match on it with the data of its case. It stands apart from `serve`, whose law then follows once, and not anew for each of eleven replies.
 fn dispatch<B: Book + Drop>(docket: &mut Docket<B>, call: &Call) -> Reply
-    ensures book { docket.new.book ≡ docket.old.book }
-    ensures size { docket.new.size ≡ docket.old.size }
     ensures reply { result ≡ reply_to (B.Book.tables docket.old.book) docket.old.size.units docket.old.tally call.now }
-    ensures after { docket.new.tally ≡ after (B.Book.tables docket.old.book) docket.old.size.units docket.old.tally call.now }
+    ensures after { docket.new ≡ record docket.old { tally = after (B.Book.tables docket.old.book) docket.old.size.units docket.old.tally call.now } }
 {
     Ok(match call {
         Call::Enter(entry) => Granted::Entered(docket.enter(entry)?),
@@ -59,10 +56,8 @@ fn dispatch<B: Book + Drop>(docket: &mut Docket<B>, call: &Call) -> Reply
 
 // One call, whichever it is; and where calls led here from a docket just opened, all that should hold does after it.
 pub fn serve<B: Book + Drop>(docket: &mut Docket<B>, call: &Call) -> Reply
-    ensures book { docket.new.book ≡ docket.old.book }
-    ensures size { docket.new.size ≡ docket.old.size }
     ensures reply { result ≡ reply_to (B.Book.tables docket.old.book) docket.old.size.units docket.old.tally call.now }
-    ensures after { docket.new.tally ≡ after (B.Book.tables docket.old.book) docket.old.size.units docket.old.tally call.now }
+    ensures after { docket.new ≡ record docket.old { tally = after (B.Book.tables docket.old.book) docket.old.size.units docket.old.tally call.now } }
     ensures onward { Onward (B.Book.tables docket.old.book) docket.old.size.units docket.old.tally docket.new.tally }
 {
     dispatch(docket, call)
@@ -71,9 +66,7 @@ pub fn serve<B: Book + Drop>(docket: &mut Docket<B>, call: &Call) -> Reply
 // The calls in order, each reply into the place of the same number, as far as there are places.
 fn serve_all<B: Book + Drop>(docket: &mut Docket<B>, calls: &[Call], places: &mut [Reply])
     ensures replies { places.new ≡ replies (B.Book.tables docket.old.book) docket.old.size.units docket.old.tally (take (served calls.now places.old) calls.now) ++ drop (served calls.now places.old) places.old }
-    ensures tally { docket.new.tally ≡ ran (B.Book.tables docket.old.book) docket.old.size.units docket.old.tally (take (served calls.now places.old) calls.now) }
-    ensures book { docket.new.book ≡ docket.old.book }
-    ensures size { docket.new.size ≡ docket.old.size }
+    ensures after { docket.new ≡ record docket.old { tally = ran (B.Book.tables docket.old.book) docket.old.size.units docket.old.tally (take (served calls.now places.old) calls.now) } }
 {
     // No `zip`: after a `zip` over `iter_mut` a proof knows nothing of what the places hold.
     let mut calls = calls.iter();

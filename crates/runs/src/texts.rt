@@ -35,8 +35,7 @@ impl fmt::Display for Granted {
     fn fmt<W: fmt::Write>(&self, f: &mut fmt::Formatter<W>) -> fmt::Result {
         match self {
             Granted::Entered(position) => write!(f, "{position}"),
-            Granted::Claimed(sets) => write!(f, "{sets}"),
-            Granted::Released(sets) => write!(f, "{sets}"),
+            Granted::Claimed(sets) | Granted::Released(sets) => write!(f, "{sets}"),
             Granted::Free(units) => write!(f, "{units}"),
             Granted::Total(parts) => write!(f, "{parts}"),
             Granted::Certified(Certificate { total, floor }) => write!(f, "{total},{floor}"),

@@ -6,16 +6,15 @@ ghost use Rattle.std.specs.Result.{result_map_both};
 ghost use Rattle.books.specs.Books.{sheet_tables};
 ghost use Rattle.tariffs.specs.Tariffs.{charges, tariff_of, charges_text};
 
-use amounts::ContractSize;
 use answers::FileFault;
 use arrayvec::ArrayVec;
 use books::{Book, Sheet};
-use positions::Record;
+use dockets::Docket;
 use reading::read;
 use std::fmt;
 
 // What each position requires alone, in parts, in order of entry.
-#[derive(Drop)]
+#[derive(Clone, Debug, PartialEq, Eq, Drop)]
 pub struct Tariff {
     pub parts: ArrayVec<u64, 32>,
 }
@@ -33,16 +32,15 @@ impl fmt::Display for Tariff {
     }
 }
 
-// What each of some positions requires alone.
-fn charged(sheet: &Sheet, size: ContractSize, held: &[Record]) -> Tariff
-    requires { length held.now ≤ 32 }
-    ensures parts { result.parts.items ≡ charges (sheet_tables sheet.now) size.units held.now }
+// What each position of a docket requires alone.
+fn charged(docket: &Docket<Sheet>) -> Tariff
+    ensures parts { result.parts.items ≡ charges (sheet_tables docket.now.book) docket.now.size.units docket.now.tally.held }
     ensures few { length result.parts.items ≤ 32 }
 {
     // A loop: collecting into an ArrayVec can fail.
     let mut parts = ArrayVec::new();
-    for position in held {
-        parts.push(sheet.alone(size, position));
+    for position in docket.positions() {
+        parts.push(docket.book().alone(docket.size(), position));
     }
     Tariff { parts }
 }
@@ -56,8 +54,7 @@ pub fn tariff_of(file: &[u8]) -> Result<Tariff, FileFault>
     if file.len() > 65_536 {
         return Err(FileFault::TooLong);
     }
+    // Places for the marks, which reading fills: nothing else is done with them.
     let mut marks = [0; 32];
-    let contents = read(file, &mut marks)?;
-    let docket = contents.docket;
-    Ok(charged(docket.book(), docket.size(), docket.positions()))
+    Ok(charged(&read(file, &mut marks)?.docket))
 }

@@ -1,12 +1,9 @@
-use Rattle.std.proofs.Common.{ℕ, zero, suc, ◌+◌, ◌*◌, ◌^◌, ◌≤◌, ap, mul-le-mul_right, mul_assoc, mul_comm, mul-le-mul_left, pow-suc, arith}
-
-pub one_le_pow : (k : ℕ) → 1 ≤ 10 ^ k
-one_le_pow zero = omega arith
-one_le_pow (suc k) = omega (arith, one_le_pow k, pow-suc 10 k)
+use Rattle.std.proofs.Common.{ℕ, suc, ◌+◌, ◌*◌, ◌^◌, ◌≤◌, ap, mul-le-mul_right, mul_assoc, mul_comm, mul-le-mul_left, pow-suc, arith}
+use Rattle.std.proofs.Math.Nat.{one-le-pow}
 
 -- a number with room for k more digits
 pub small : (n k m : ℕ) → (n + 1) * 10 ^ k ≤ m → n + 1 ≤ m
-small n k m h = omega (arith, mul-le-mul_left (n + 1) (one_le_pow k))
+small n k m h = omega (arith, mul-le-mul_left (n + 1) (one-le-pow k 10 (omega arith)))
 
 pub room_more : (n d k m : ℕ) → (n + 1) * 10 ^ suc k ≤ m → d ≤ 9 → (n * 10 + d + 1) * 10 ^ k ≤ m
 room_more n d k m h le =

@@ -4,7 +4,8 @@ ghost use Rattle.std.specs.Option.{option_map};
 ghost use Rattle.text.specs.Fields.{split, remaining, width, place_after};
 
 // What is left of a line, None after its last field, and the place where the next field begins, counted from 1.
-#[derive(Clone, Copy)]
+// Tried with a Model: a struct with a lifetime and a model is refused as Copy, which this is.
+#[derive(Clone, Copy, Debug, PartialEq, Eq)]
 pub struct Fields<'a> {
     rest: Option<&'a [u8]>,
     place: usize,
@@ -14,7 +15,7 @@ pub struct Fields<'a> {
 
 impl<'a> Fields<'a> {
     // The fields of a value that begins at a place of its line.
-    // The bound on a place stands here and at one_field: two functions share it, and no type.
+    // The bound on a place stands here and at one_field: a type for it would be longer than the two clauses.
     pub fn new(rest: &'a [u8], place: usize) -> Fields<'a>
         requires { (1 ≤ place) × (place ≤ 100) }
         ensures { (remaining result.rest ≡ split 44 rest.now) × (result.place ≡ place) }

@@ -47,6 +47,7 @@ pub fn integer_of(s: &[u8]) -> Option<i64>
 {
     match s {
         [b'-', rest @ ..] => negative_of(rest),
+        // At most 15 digits, so the cast loses nothing.
         _ => natural_of(s).map(|n| n as i64),
     }
 }

@@ -93,14 +93,11 @@ pub fn end(f: &mut Fields) -> Result<(), BadField>
     ensures { result ≡ end_at tt f.old.place (left f.old) }
 {
     let place = f.place();
-    match f.take_field() {
-        None => Ok(()),
-        Some(_) => Err(BadField { place }),
-    }
+    f.take_field().map_or(Ok(()), |_| Err(BadField { place }))
 }
 
 // The one field of a value that begins at a place of its line.
-// The bound on a place stands here and at Fields::new: two functions share it, and no type.
+// The bound on a place stands here and at Fields::new: a type for it would be longer than the two clauses.
 pub fn one_field<T: Value + Drop>(value: &[u8], place: usize) -> Result<T, BadField>
     requires { (1 ≤ place) × (place ≤ 100) }
     ensures { result ≡ one_field T.Value.reads place (split 44 value.now) }

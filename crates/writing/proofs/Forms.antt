@@ -1,9 +1,10 @@
 -- The text of a file, as its parts are written.
-use Rattle.std.proofs.Common.{◌≡◌, ℕ, min, List, [], ◌∷◌, ◌++◌, map, length, take, Some, None, codes, decimal, Option, sym, refl, ap, ◌∙◌, subst, append_assoc, arith}
+use Rattle.std.proofs.Common.{◌≡◌, ℕ, List, [], ◌∷◌, ◌++◌, Some, None, codes, decimal, Option, sym, refl, ap, ◌∙◌, subst, append_assoc}
 use Rattle.std.specs.List.{flat_map}
 use Rattle.std.specs.Fmt.{AppendsText, ◌++?◌}
 use Rattle.std.specs.Option.{IfSome, IsSomeAnd, MatchOption}
-use Rattle.std.proofs.lemmas.List.{length-take, take_all, take-take}
+use Rattle.std.proofs.lemmas.Grind.{flat_map-append}
+use Rattle.std.proofs.lemmas.List.Folds.{flat_map-map}
 use Rattle.amounts.specs.declared.rate.Rate.{Rate}
 use Rattle.amounts.specs.Rates.{points}
 use Rattle.market.specs.Share.{Shares}
@@ -57,20 +58,6 @@ share_output s reduced futures tracking =
 pub share_printed : (s : Shares) {bytes reduced : List ℕ} {futures tracking : Option (List ℕ)} → reduced ≡ reduced_text s.reduced → futures ≡ Some (rate_text s.futures) → tracking ≡ Some (rate_text s.tracking) → IfSome (share_output s reduced futures tracking) (λ bs. bytes ≡ bs) → bytes ≡ flat_map ended (sheet_lines (share s))
 share_printed s {bytes} r f t e = subst (λ o. IfSome o (λ bs. bytes ≡ bs)) (λ j. share_output s (r j) (f j) (t j)) e ∙ share_text s
 
--- lines in two parts
-joined_++ : {X A : Type 0} (f : X → List A) (xs ys : List X) → flat_map f (xs ++ ys) ≡ flat_map f xs ++ flat_map f ys
-joined_++ f [] ys = refl
-joined_++ f (x ∷ xs) ys = ap (λ l. f x ++ l) (joined_++ f xs ys) ∙ sym (append_assoc (f x) (flat_map f xs) (flat_map f ys))
-
--- a line for each item
-joined_map : {X Y A : Type 0} (f : Y → List A) (g : X → Y) (xs : List X) → flat_map f (map g xs) ≡ flat_map (λ x. f (g x)) xs
-joined_map f g [] = refl
-joined_map f g (x ∷ xs) = ap (λ l. f (g x) ++ l) (joined_map f g xs)
-
--- at most n of a list
-pub take_least : {A : Type 0} (m n : ℕ) (l : List A) → m ≡ min (length l) n → take m l ≡ take n l
-take_least m n l e = sym (take-take m n l (omega arith)) ∙ take_all m (take n l) (omega (arith, length-take n l))
-
 -- the size line and the texts of the other lines, in their order
 pub file_text_lem : (c : Content) {size : ℕ} {rates positions claims marks : List ℕ} →
     size ≡ c.size →
@@ -79,4 +66,4 @@ pub file_text_lem : (c : Content) {size : ℕ} {rates positions claims marks : L
     claims ≡ flat_map (λ l. ended (claim_line l)) c.tally.claims →
     marks ≡ flat_map (λ m. ended (mark_line m)) c.marks →
     codes "size=" ++ (decimal size ++ (codes "\n" ++ (rates ++ (positions ++ (claims ++ marks))))) ≡ file_text c
-file_text_lem c s r p l m = rw (s, r, p, l, m) (key_then (codes "size=") (decimal c.size) (sym (simp (joined_++, joined_map))))
+file_text_lem c s r p l m = rw (s, r, p, l, m) (key_then (codes "size=") (decimal c.size) (sym (simp (flat_map-append, flat_map-map))))

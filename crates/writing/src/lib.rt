@@ -35,7 +35,7 @@ impl From<AllocError> for WriteFault {
 }
 
 impl WriteFault {
-    // The number by which the fault is known, which the file format fixes.
+    // The number by which the fault is known, which the file format fixes; want of memory has no number, and is told as 0.
     pub fn number(self) -> u8
         ensures { result ≡ write_number self }
     {
@@ -59,7 +59,7 @@ impl WriteFault {
     }
 }
 
-// The text of the file, with at most 32 marks.
+// The text of the file, with at most 32 marks. Docket and marks stand side by side: the product writes a docket with marks that are the caller's.
 pub fn text(heap: Global, docket: &Docket<Sheet>, marks: &[i64]) -> Result<String, AllocError>
     ensures { IfOk result (λ t. string_bytes t ≡ file_text (described docket.now (take 32 marks.now))) }
 {
@@ -85,6 +85,7 @@ fn copy_into(text: &[u8], buf: &mut [u8]) -> Result<usize, WriteFault>
 }
 
 // Writes the file to the front of a buffer, and gives its length; a fault leaves the buffer as it was.
+// Docket, marks and buffer are the caller's, and the length is given back: the product writes a file in this form.
 pub fn write(
     heap: Global,
     docket: &Docket<Sheet>,

@@ -4,7 +4,7 @@ ghost use Rattle.writing.specs.Texts.{text_or_none};
 use std::fmt;
 
 // A value, or the word none where there is none.
-#[derive(Drop)]
+#[derive(Clone, Debug, PartialEq, Eq, Drop)]
 pub struct OrNone<T>(pub Option<T>);
 
 impl<T: fmt::Display> fmt::Display for OrNone<T> {

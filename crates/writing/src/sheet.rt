@@ -1,4 +1,4 @@
-// Lines of a sheet.
+// Lines of a sheet. Functions and no Display: the sheets are types of other crates, and these lines are of the file's format.
 ghost use Rattle.std.specs.Prelude.{◌≡◌, IfOk, string_bytes};
 ghost use Rattle.std.specs.List.{flat_map};
 ghost use Rattle.market.specs.Share.{shares_on};
@@ -11,7 +11,7 @@ use books::Sheet;
 use market::{CurrencySheet, ShareSheet};
 use std::alloc::{AllocError, Global};
 
-// Whether a share is eligible for a reduced margin.
+// Whether a share is eligible for a reduced margin: by hand, since a bool prints as true or false.
 fn yes_or_no(reduced: bool) -> &'static str
     ensures { result.now ≡ reduced_text reduced }
 {

@@ -9,13 +9,13 @@ use Rattle.certificate.proofs.floor.Goals as goal
 
 pub overflow_add-total : goal.overflow_add-total
 overflow_add-total c =
-    let t = zip_turn c.args.held.now c.args.marks.now c.loop-record.yielded c.into_iter-record-iterator.result c.loop-record.record-iterator c.next.new.self c.next.result (cc) (cc) c.loop-record.yielded_by _ c.in-Some.is c.next.ensures.steps in
+    let t = zip_turn c.args.marked.now.held.now c.args.marked.now.marks.now c.loop-record.yielded c.into_iter-record-iterator.result c.loop-record.record-iterator c.next.new.self c.next.result (cc) (cc) c.loop-record.yielded_by _ c.in-Some.is c.next.ensures.steps in
     omega (arith, ints)
 
 pub loop-record-preserved : goal.loop-record-preserved
 loop-record-preserved c =
-    let held = c.args.held.now in
-    let marks = c.args.marks.now in
+    let held = c.args.marked.now.held.now in
+    let marks = c.args.marked.now.marks.now in
     let n = length c.loop-record.yielded in
     let f = λ (p : ℕ). mark marks p *ℤ pos (at held p).quantity in
     let t = zip_turn held marks c.loop-record.yielded c.into_iter-record-iterator.result c.loop-record.record-iterator c.next.new.self c.next.result (cc) (cc) c.loop-record.yielded_by _ c.in-Some.is c.next.ensures.steps in
@@ -32,8 +32,8 @@ loop-record-preserved c =
 
 pub returns : goal.returns
 returns c =
-    let held = c.args.held.now in
-    let marks = c.args.marks.now in
+    let held = c.args.marked.now.held.now in
+    let marks = c.args.marked.now.marks.now in
     let f = λ (p : ℕ). mark marks p *ℤ pos (at held p).quantity in
     let all = zip_end held marks c.loop-record.yielded c.into_iter-record-iterator.result c.loop-record.record-iterator c.next.new.self c.next.result (cc) (cc) c.loop-record.yielded_by c.in-None.is c.next.ensures.steps in
     let same : sum_z (length c.loop-record.yielded) f ≡ sum_z (length held) f = ap (λ i. sum_z i f) (let w : length c.loop-record.yielded ≡ length held = omega arith in w) in

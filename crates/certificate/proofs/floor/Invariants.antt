@@ -5,6 +5,6 @@ use Rattle.certificate.proofs.floor.Given as goal
 
 abbrev pub invariant-loop-record : goal.invariant-loop-record
 invariant-loop-record l =
-    (l.total ≡ sum_z (length l.yielded) (λ p. mark l.marks p *ℤ pos (at l.held p).quantity))
+    (l.total ≡ sum_z (length l.yielded) (λ p. mark l.marked.marks.now p *ℤ pos (at l.marked.held.now p).quantity))
     × (neg_ℤ (pos (2 ^ 95 * length l.yielded)) ≤ℤ l.total)
     × (l.total ≤ℤ pos (2 ^ 95 * length l.yielded))

@@ -10,9 +10,9 @@ use Rattle.certificate.proofs.out_of_limit.Goals as goal
 
 pub returns : goal.returns
 returns c =
-    let held = c.args.held.now in
-    let marks = c.args.marks.now in
+    let held = c.args.marked.now.held.now in
+    let marks = c.args.marked.now.marks.now in
     let found = position_from_yields_List (λ p. beyond p.1 (limit p.0.kind)) c.position.new.self _ c.position.result c.position.ensures.ran (YieldsList-from_zip {s = c.zip.result} (YieldsList-from_slice held cc) (YieldsList-from_slice marks cc)) (λ x b q k. search (rules, tests)) in
-    let place = ap (option_map (λ n. n + 1)) found ∙ place_is held marks c.requires in
+    let place = ap (option_map (λ n. n + 1)) found ∙ place_is held marks c.args.marked.now.each in
     let value : c.map.result ≡ first_beyond held marks = search rules in
     record { value = value; within = λ e. limited_from held marks (sym value ∙ e) }

@@ -1,5 +1,5 @@
 use Rattle.std.proofs.Common.{ap, ◌∙◌}
-use Rattle.amounts.specs.declared.contract_size.ContractSize.{ContractSize}
+use Rattle.dockets.specs.Dockets.{Docket}
 use Rattle.runs.proofs.Prefixes.{opened}
 use Rattle.runs.proofs.run.Goals as goal
 
@@ -8,7 +8,7 @@ returns g c =
     let o = c.in_ok-docket.ensures in
     let all = c.serve_all.ensures in (
       o.0,
-      all.book ∙ o.1,
-      ap (λ (n : ContractSize). n.units) all.size ∙ o.2,
-      opened g.B.Book.tables o.1 o.2 o.3 (g.met.B.Book.lawful c.args.book) c.args.calls.now c.args.places.now c.serve_all.new.places c.serve_all.new.docket.tally all.replies all.tally,
+      ap (λ (d : Docket _). d.book) all.after ∙ o.1,
+      ap (λ (d : Docket _). d.size.units) all.after ∙ o.2,
+      opened g.B.Book.tables o.1 o.2 o.3 (g.met.B.Book.lawful c.args.book) c.args.calls.now c.args.places.now c.serve_all.new.places c.serve_all.new.docket.tally all.replies (ap (λ (d : Docket _). d.tally) all.after),
     )

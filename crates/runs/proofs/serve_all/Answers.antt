@@ -1,6 +1,5 @@
 use Rattle.std.proofs.Common.{◌≡◌, ℕ, ◌+◌, ◌<◌, List, ◌∷◌, ◌++◌, length, get_or, take, drop, sym, ap, ◌∙◌, arith, length-drop}
 use Rattle.std.proofs.lemmas.List.{take-append-drop, set-get_or, drop_more}
-use Rattle.amounts.specs.declared.contract_size.ContractSize.{ContractSize}
 use Rattle.books.specs.Tables.{Tables}
 use Rattle.dockets.specs.Tally.{Tally}
 use Rattle.runs.specs.declared.Call.{Call}
@@ -31,16 +30,11 @@ loop-place-preserved g c =
     let i = c.loop-place.place-index in
     let k = c.in-Some.call.now in
     let inv = c.loop-place.invariant in
-    let size = ap (λ (n : ContractSize). n.units) inv.size in
     let next = turn cs _ i k (sym inv.rest ∙ c.in-Some.ensures.steps) in
-    let z = c.dispatch.new.docket.tally in
     let a = c.dispatch.result in
-    let after = after_same g.B.Book.tables inv.book size inv.tally k z c.dispatch.ensures.after in
-    let reply = reply_same g.B.Book.tables inv.book size inv.tally k a c.dispatch.ensures.reply in
+    let reply = reply_same g.B.Book.tables inv.docket k a c.dispatch.ensures.reply in
     record {
-      book = c.dispatch.ensures.book ∙ inv.book;
-      size = c.dispatch.ensures.size ∙ inv.size;
-      tally = ran_more t s y cs i k next.0 z cc;
+      docket = after_same g.B.Book.tables inv.docket k c.dispatch.new.docket c.dispatch.ensures.after ∙ ap (λ (z : Tally). record d { tally = z }) (ran_more t s y cs i k next.0 _ cc);
       replied = replies_more t s y cs i k next.0 c.loop-place.places a (omega arith) inv.replied cc;
       kept = places_more c.loop-place.places c.args.places.now i a inv.kept;
       rest = next.2;
@@ -62,9 +56,7 @@ returns-in_default g c =
     let all : i ≡ served cs c.args.places.now = omega (arith, c.in_default.ensures.steps.0) in
     record {
       replies = set-get_or os i _ ∙ all_served t s y cs c.args.places.now os i all inv.replied inv.kept;
-      tally = inv.tally ∙ ap (λ (n : ℕ). ran t s y (take n cs)) all;
-      book = inv.book;
-      size = inv.size;
+      after = inv.docket ∙ ap (λ (n : ℕ). record d { tally = ran t s y (take n cs) }) all;
     }
 
 pub returns-clause-replies : goal.returns-clause-replies

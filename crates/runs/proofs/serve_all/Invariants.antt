@@ -10,9 +10,7 @@ invariant-loop-place g l =
     let y = l.initial.docket.tally in
     let i = l.place-index in
     record {
-      book : l.docket.book ≡ l.initial.docket.book;
-      size : l.docket.size ≡ l.initial.docket.size;
-      tally : l.docket.tally ≡ ran t s y (take i l.fn.calls);
+      docket : l.docket ≡ record l.initial.docket { tally = ran t s y (take i l.fn.calls) };
       replied : take i l.places ≡ replies t s y (take i l.fn.calls);
       kept : drop i l.places ≡ drop i l.initial.places;
       rest : iter_rest l.calls ≡ drop i l.fn.calls;

@@ -7,4 +7,4 @@ pub returns : goal.returns
 returns g c =
     let k = c.args.self.now in
     let n = c.new.ensures in
-    find_map_first _ _ (alone_breach (g.B.Book.tables k.book.now) k.size.units k.held.now k.marks.now) (length k.held.now) (search rules) (λ x o l u e. search rules) c.new.result c.find_map.result c.find_map.ensures.runs n.start (omega (arith, n.end, c.positions.ensures)) n.exhausted
+    find_map_first _ _ (alone_breach (g.B.Book.tables k.book.now) k.size.units k.marked.held.now k.marked.marks.now) (length k.marked.held.now) (search rules) (λ x o l u e. search rules) c.new.result c.find_map.result c.find_map.ensures.runs n.start (omega (arith, n.end, c.positions.ensures)) n.exhausted

@@ -8,4 +8,4 @@ returns g c =
     let k = c.args.self.now in
     let t = g.B.Book.tables k.book.now in
     let n = c.new.ensures in
-    find_map_first _ _ (first_leg t k.size.units k.held.now k.marks.now) t.articles (search rules) (λ x o l u e. search rules) c.new.result c.find_map.result c.find_map.ensures.runs n.start (omega (arith, n.end, c.articles.ensures)) n.exhausted
+    find_map_first _ _ (first_leg t k.size.units k.marked.held.now k.marked.marks.now) t.articles (search rules) (λ x o l u e. search rules) c.new.result c.find_map.result c.find_map.ensures.runs n.start (omega (arith, n.end, c.articles.ensures)) n.exhausted

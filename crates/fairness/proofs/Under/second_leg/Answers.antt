@@ -8,4 +8,4 @@ returns g c =
     let u = c.args.self.now in
     let k = u.search.now in
     let n = c.new.ensures in
-    find_map_first _ _ (third_leg (g.B.Book.tables k.book.now) k.size.units k.held.now k.marks.now u.article c.args.first) (length k.held.now) (search rules) (λ x o l v e. search rules) c.new.result c.find_map.result c.find_map.ensures.runs n.start (omega (arith, n.end, c.positions.ensures)) n.exhausted
+    find_map_first _ _ (third_leg (g.B.Book.tables k.book.now) k.size.units k.marked.held.now k.marked.marks.now u.article c.args.first) (length k.marked.held.now) (search rules) (λ x o l v e. search rules) c.new.result c.find_map.result c.find_map.ensures.runs n.start (omega (arith, n.end, c.positions.ensures)) n.exhausted

@@ -10,5 +10,5 @@ returns g c =
     let k = u.search.now in
     let t = g.B.Book.tables k.book.now in
     let n = c.new.ensures in
-    find_map_first _ _ (λ z. set_breach t k.size.units k.held.now k.marks.now u.article (legs_of c.args.first c.args.second (Some z))) (length k.held.now) (search rules) (λ x o l v e. search rules) c.new.result c.find_map.result c.find_map.ensures.runs n.start (omega (arith, n.end, c.positions.ensures)) n.exhausted
-    ∙ sym (cond-false _ (set_breach t k.size.units k.held.now k.marks.now u.article (legs_of c.args.first c.args.second None)) _ (ne_eqb (t.legs u.article) 2 (λ e. c.if-legs-eq2.false (c.legs.ensures ∙ e))))
+    find_map_first _ _ (λ z. set_breach t k.size.units k.marked.held.now k.marked.marks.now u.article (legs_of c.args.first c.args.second (Some z))) (length k.marked.held.now) (search rules) (λ x o l v e. search rules) c.new.result c.find_map.result c.find_map.ensures.runs n.start (omega (arith, n.end, c.positions.ensures)) n.exhausted
+    ∙ sym (cond-false _ (set_breach t k.size.units k.marked.held.now k.marked.marks.now u.article (legs_of c.args.first c.args.second None)) _ (ne_eqb (t.legs u.article) 2 (λ e. c.if-legs-eq2.false (c.legs.ensures ∙ e))))

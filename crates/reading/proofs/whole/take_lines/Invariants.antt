@@ -9,8 +9,7 @@ use Rattle.reading.proofs.whole.take_lines.Given as goal
 abbrev pub invariant-loop-bytes : goal.invariant-loop-bytes
 invariant-loop-bytes l =
     (l.line ≡ l.reader.line)
-    × (l.gathered.docket.book ≡ l.initial.gathered.docket.book)
-    × (l.gathered.docket.size ≡ l.initial.gathered.docket.size)
+    × (l.gathered.docket ≡ record l.initial.gathered.docket { tally = l.gathered.docket.tally })
     × (body_from (sheet_tables l.initial.gathered.docket.book) l.initial.gathered.docket.size.units l.reader.line (body_in l.gathered) (pieces l.reader)
     ≡ body_from (sheet_tables l.initial.gathered.docket.book) l.initial.gathered.docket.size.units l.initial.reader.line (body_in l.initial.gathered) (pieces l.initial.reader))
 
