@@ -3,7 +3,7 @@
 
 mod gathered;
 mod taking;
-mod values;
+pub mod values;
 mod whole;
 
 pub use whole::{Contents, read};

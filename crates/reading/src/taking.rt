@@ -19,7 +19,7 @@ impl Gathered {
         if !self.docket.claims().is_empty() || !self.marks.is_empty() {
             return Err(LineCause::WrongKey.into());
         }
-        self.docket.enter(&entry_in(value)?)?;
+        self.docket.enter(&entry_in(value, 5)?)?;
         Ok(())
     }
 
@@ -31,7 +31,7 @@ impl Gathered {
         if !self.marks.is_empty() {
             return Err(LineCause::WrongKey.into());
         }
-        let claim = claim_in(value)?;
+        let claim = claim_in(value, 7)?;
         if self.docket.has_line(&claim) {
             return Err(LineCause::Repeated.into());
         }

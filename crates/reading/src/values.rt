@@ -1,5 +1,5 @@
 // The values of pos and claim lines, field by field: a function for each, since they make different records.
-ghost use Rattle.std.specs.Prelude.{◌≡◌};
+ghost use Rattle.std.specs.Prelude.{◌≡◌, ◌≤◌};
 ghost use Rattle.text.specs.Fields.{split};
 ghost use Rattle.reading.specs.Values.{entry_at, claim_at};
 
@@ -9,11 +9,12 @@ use text::BadField;
 use text::fields::Fields;
 use text::values::{end, take};
 
-// Side, kind, strike, days, price and quantity; the first begins at place 5.
-pub fn entry_in(value: &[u8]) -> Result<Entry, BadField>
-    ensures { result ≡ entry_at 5 (split 44 value.now) }
+// Side, kind, strike, days, price and quantity, of which the first begins at a place of its line.
+pub fn entry_in(value: &[u8], place: usize) -> Result<Entry, BadField>
+    requires { (1 ≤ place) × (place ≤ 100) }
+    ensures { result ≡ entry_at place (split 44 value.now) }
 {
-    let mut fields = Fields::new(value, 5);
+    let mut fields = Fields::new(value, place);
     let side = take::<char>(&mut fields)?;
     let kind = take::<char>(&mut fields)?;
     let strike = take::<u64>(&mut fields)?;
@@ -31,11 +32,12 @@ pub fn entry_in(value: &[u8]) -> Result<Entry, BadField>
     })
 }
 
-// Article, three legs and sets; the first begins at place 7.
-pub fn claim_in(value: &[u8]) -> Result<Claim, BadField>
-    ensures { result ≡ claim_at 7 (split 44 value.now) }
+// Article, three legs and sets, of which the first begins at a place of its line.
+pub fn claim_in(value: &[u8], place: usize) -> Result<Claim, BadField>
+    requires { (1 ≤ place) × (place ≤ 100) }
+    ensures { result ≡ claim_at place (split 44 value.now) }
 {
-    let mut fields = Fields::new(value, 7);
+    let mut fields = Fields::new(value, place);
     let article = take::<u64>(&mut fields)?;
     let first = take::<u64>(&mut fields)?;
     let second = take::<u64>(&mut fields)?;

@@ -1,0 +1,38 @@
+// What marks come to.
+ghost use Rattle.std.specs.Prelude.{◌≡◌, ◌^◌, pos, ◌-ℤ◌, ◌*ℤ◌, neg_ℤ, ◌≤ℤ◌, IfSome};
+ghost use Rattle.pairing.specs.Pairing.{mark, lot, worth};
+ghost use Rattle.breaches.specs.Search.{legs_in};
+
+use books::Sheet;
+use breaches::Legs;
+use dockets::Docket;
+use pairing::{lot, mark, mark_times};
+
+// The mark of what a set takes of a leg.
+fn leg_worth(docket: &Docket<Sheet>, marks: &[i64], position: u8) -> i128
+    ensures value { result ≡ mark marks.now position *ℤ pos (lot docket.now.size.units docket.now.tally.held position) }
+    ensures low { neg_ℤ (pos (2 ^ 95)) ≤ℤ result }
+    ensures high { result ≤ℤ pos (2 ^ 95) }
+{
+    let number = u64::from(position);
+    let each = lot(docket.size(), docket.positions(), number);
+    mark_times(mark(marks, number), u32::from(each))
+}
+
+// The marks of what a set takes.
+pub fn worth(docket: &Docket<Sheet>, marks: &[i64], legs: &Legs) -> i128
+    ensures { result ≡ worth docket.now.size.units docket.now.tally.held marks.now (legs_in legs.now) }
+{
+    let two = leg_worth(docket, marks, legs.first) + leg_worth(docket, marks, legs.second);
+    match legs.third {
+        Some(third) => two + leg_worth(docket, marks, third),
+        None => two,
+    }
+}
+
+// How far the floor lies under the total; none where the difference would not fit, which is never so.
+pub fn gap_of(total: u128, floor: i128) -> Option<i128>
+    ensures { IfSome result (λ gap. gap ≡ pos total -ℤ floor) }
+{
+    i128::try_from(total).ok()?.checked_sub(floor)
+}

@@ -1,0 +1,13 @@
+use Rattle.std.proofs.Common.{ℕ, ◌≤◌, pos, ap, sym, subst, ◌∙◌}
+use Rattle.pairing.specs.Pairing.{cost}
+use Rattle.examples.specs.Examples.{sample_size}
+use Rattle.worked.specs.Sample.{tables, tally}
+use Rattle.glossary.proofs.docket.least.Goals as goal
+
+pub returns-clause-text : goal.returns-clause-text
+returns-clause-text c = rw (c.from-whole.ensures, c.total.ensures, c.from-floor.ensures, c.certificate.ensures.shown.figure, c.verdict-verdict.ensures) at c.format.ensures.ok
+
+pub returns-clause-least : goal.returns-clause-least
+returns-clause-least c = λ xs lawful.
+    let shown = c.certificate.ensures.shown in
+    subst (λ (whole : ℕ). whole ≤ cost tables sample_size tally.held xs) shown.sums (shown.least (shown.figure ∙ ap pos (sym shown.sums)) xs lawful)

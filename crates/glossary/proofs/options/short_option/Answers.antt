@@ -1,0 +1,6 @@
+use Rattle.std.proofs.Common.{ap}
+use Rattle.pricing.specs.Alone.{positive_part}
+use Rattle.glossary.proofs.options.short_option.Goals as goal
+
+pub returns : goal.returns
+returns g c = rw (ap positive_part c.short_option.ensures, ap positive_part c.short_option_floored.ensures) at c.format.ensures.ok

@@ -1,0 +1,65 @@
+// Worked figures of amounts and of positions alone.
+ghost use Rattle.std.specs.Prelude.{◌≡◌, IfOk, string_bytes};
+ghost use Rattle.glossary.specs.Alone.{part_text, requirement_text, long_requirement_text, short_requirement_text, futures_text, escrow_receipt_text};
+
+use crate::words::{Parts, Price};
+use market::Market;
+use pricing::Contract;
+use std::alloc::{AllocError, Global};
+
+// Part: the floor rate of 1.25.
+pub fn part<M: Market>(heap: Global, market: &M) -> Result<String, AllocError>
+    ensures { IfOk result (λ t. string_bytes t ≡ part_text (M.Market.quote market.now)) }
+{
+    let rate = market.floor_rate().basis_points;
+    let parts = worked::part(market);
+    let amount = Parts(parts);
+    format!(in heap;
+        "Of 1.25, the floor rate of {rate} basis points: {parts} parts, which are {amount}."
+    )
+}
+
+// Requirement: a short call alone.
+pub fn requirement<M: Market>(heap: Global, contract: &Contract<M>) -> Result<String, AllocError>
+    ensures { IfOk result (λ t. string_bytes t ≡ requirement_text contract.now.quote contract.now.size) }
+{
+    let size = contract.size.units;
+    let price = Price(contract.market.price());
+    let amount = Parts(worked::requirement(contract));
+    format!(in heap; "A short call of strike 55.00 at 1.20, on {size} units at {price}: {amount}.")
+}
+
+// Long requirement: a unit held long.
+pub fn long_requirement<M: Market>(heap: Global, market: &M) -> Result<String, AllocError>
+    ensures { IfOk result (λ t. string_bytes t ≡ long_requirement_text (M.Market.quote market.now)) }
+{
+    let price = Price(market.price());
+    let amount = Parts(worked::long_requirement(market));
+    format!(in heap; "A unit at {price}: {amount}.")
+}
+
+// Short requirement: a unit held short.
+pub fn short_requirement<M: Market>(heap: Global, market: &M) -> Result<String, AllocError>
+    ensures { IfOk result (λ t. string_bytes t ≡ short_requirement_text (M.Market.quote market.now)) }
+{
+    let price = Price(market.price());
+    let amount = Parts(worked::short_requirement(market));
+    format!(in heap; "A unit at {price}: {amount}.")
+}
+
+// Futures: a contract alone.
+pub fn futures<M: Market>(heap: Global, contract: &Contract<M>) -> Result<String, AllocError>
+    ensures { IfOk result (λ t. string_bytes t ≡ futures_text contract.now.quote contract.now.size) }
+{
+    let size = contract.size.units;
+    let amount = Parts(worked::futures(contract));
+    format!(in heap; "At a settlement of 50.60, on {size} units: {amount}.")
+}
+
+// Escrow receipt: one alone.
+pub fn escrow_receipt<M: Market>(heap: Global, contract: &Contract<M>) -> Result<String, AllocError>
+    ensures { IfOk result (λ t. string_bytes t ≡ escrow_receipt_text contract.now.quote contract.now.size) }
+{
+    let amount = Parts(worked::escrow_receipt(contract));
+    format!(in heap; "A receipt: {amount}.")
+}

@@ -1,0 +1,16 @@
+// Prints the terms of the margin rules, each with its sentence and a worked figure.
+#![tactic(auto)]
+
+mod alone;
+mod docket;
+mod options;
+mod screen;
+mod sets;
+mod terms;
+mod words;
+
+fn main(rt: HostRuntime) -> anyhow::Result<()> {
+    let page = screen::screen(rt.alloc())?;
+    print!(rt; "{page}")?;
+    Ok(())
+}

@@ -1,0 +1,4 @@
+pub mod Amounts
+pub mod Digits
+pub mod Texts
+pub mod Reading

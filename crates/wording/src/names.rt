@@ -1,0 +1,65 @@
+// Names of what a docket has.
+ghost use Rattle.std.specs.Prelude.{◌≡◌};
+ghost use Rattle.wording.specs.Names.{article_of};
+
+use articles::Article;
+use books::Sheet;
+use positions::{Kind, Side};
+
+pub fn side_name(side: Side) -> &'static str {
+    match side {
+        Side::Long => "long",
+        Side::Short => "short",
+    }
+}
+
+pub fn kind_name(kind: Kind) -> &'static str {
+    match kind {
+        Kind::Units => "units",
+        Kind::Call => "call",
+        Kind::Put => "put",
+        Kind::Futures => "futures",
+        Kind::Receipt => "receipt",
+    }
+}
+
+pub fn article_name(article: Article) -> &'static str {
+    match article {
+        Article::CallSpread => "call spread",
+        Article::PutSpread => "put spread",
+        Article::Straddle => "straddle",
+        Article::ProtectivePut => "protective put",
+        Article::Conversion => "conversion",
+        Article::Reconversion => "reconversion",
+        Article::ReceiptCall => "call on an escrow receipt",
+    }
+}
+
+// The article of a number, if the book has one.
+pub fn article_of(sheet: &Sheet, number: u64) -> Option<Article>
+    ensures { result ≡ article_of sheet.now number }
+{
+    match (sheet, number) {
+        (_, 1) => Some(Article::CallSpread),
+        (_, 2) => Some(Article::PutSpread),
+        (_, 3) => Some(Article::Straddle),
+        (_, 4) => Some(Article::ProtectivePut),
+        (Sheet::Share(_), 5) => Some(Article::Conversion),
+        (Sheet::Share(_), 6) => Some(Article::Reconversion),
+        (Sheet::Currency(_), 5) => Some(Article::ReceiptCall),
+        _ => None,
+    }
+}
+
+// A number of a field or a leg, in a word.
+pub fn ordinal(number: usize) -> &'static str {
+    match number {
+        1 => "first",
+        2 => "second",
+        3 => "third",
+        4 => "fourth",
+        5 => "fifth",
+        6 => "sixth",
+        _ => "last",
+    }
+}
