@@ -1,19 +1,19 @@
 // The figures of positions and of claims that stand.
-ghost use Rattle.std.specs.Prelude.{◌≡◌, ◌*◌, ◌^◌, ◌≤◌, IfSome, Ok, pos, ◌-ℤ◌};
+ghost use Rattle.std.specs.Prelude.{◌≡◌, ◌*◌, ◌^◌, ◌≤◌, true, Some, IsSome};
+ghost use Rattle.amounts.specs.Ranges.{inside};
 ghost use Rattle.books.specs.Books.{sheet_tables};
-ghost use Rattle.pairing.specs.Pairing.{at, lot, answer};
+ghost use Rattle.pairing.specs.Pairing.{Allowed, requirement};
 ghost use Rattle.pairing.specs.Claims.{legs_of, set_of};
-ghost use Rattle.certificate.specs.Totals.{free};
-ghost use Rattle.figures.specs.Shown.{FreeShown, LineShown, leg_alone, legs_alone};
+ghost use Rattle.figures.specs.Shown.{free_figures, leg_alone, legs_alone, set_requirement, line_figures};
 
 use crate::{FreeFigures, LineFigures};
 use books::{Book, Sheet};
 use dockets::Docket;
 use pairing::{Claim, answer, at, lot};
 
-// Of a position, by its number. Beyond the last position nothing is free.
+// Of a position, by its number. Of a number that no position has, nothing is free.
 pub fn free_figures(docket: &Docket<Sheet>, number: u64) -> FreeFigures
-    ensures { FreeShown (sheet_tables docket.now.book) docket.now.size.units docket.now.tally number result }
+    ensures { result ≡ free_figures (sheet_tables docket.now.book) docket.now.size.units docket.now.tally number }
 {
     let record = at(docket.positions(), number);
     let alone = docket.book().alone(docket.size(), &record);
@@ -26,14 +26,16 @@ pub fn free_figures(docket: &Docket<Sheet>, number: u64) -> FreeFigures
     }
 }
 
-// What a set requires of a claim that the book knows, if it is not refused.
+// What a set of a claim requires; none where the book does not know the claim, or refuses the set.
+#[tactic(auto, using(crate::proofs::Allowing::allowed_required))]
 pub fn set_requirement(docket: &Docket<Sheet>, claim: &Claim) -> Option<u64>
-    ensures { IfSome result (λ n. Ok n ≡ answer (sheet_tables docket.now.book) docket.now.size.units docket.now.tally.held (set_of claim.now)) }
+    ensures value { result ≡ set_requirement (sheet_tables docket.now.book) docket.now.size.units docket.now.tally.held claim.now }
+    ensures allowed { Allowed (sheet_tables docket.now.book) docket.now.size.units docket.now.tally.held (set_of claim.now) → result ≡ Some (requirement (sheet_tables docket.now.book) docket.now.size.units docket.now.tally.held (set_of claim.now)) }
 {
     let book = docket.book();
-    let article = u8::try_from(claim.article).ok()?;
-    let known = (1..=book.articles()).contains(&article);
-    if !known || claim.legs() != book.legs(article) {
+    let known = (1..=u64::from(book.articles())).contains(&claim.article);
+    // A known article is at most the book's last, a `u8`, so the casts lose nothing.
+    if !known || claim.legs() != book.legs(claim.article as u8) {
         return None;
     }
     let legs = [claim.first, claim.second, claim.third];
@@ -42,7 +44,7 @@ pub fn set_requirement(docket: &Docket<Sheet>, claim: &Claim) -> Option<u64>
         book,
         docket.size(),
         docket.positions(),
-        article,
+        claim.article as u8,
         &legs[..count],
     )
     .ok()
@@ -60,7 +62,8 @@ fn leg_alone(docket: &Docket<Sheet>, position: u64) -> u128
 
 // What a set takes, alone.
 fn set_alone(docket: &Docket<Sheet>, claim: &Claim) -> u128
-    ensures { result ≡ legs_alone (sheet_tables docket.now.book) docket.now.size.units docket.now.tally.held (legs_of claim.now) }
+    ensures value { result ≡ legs_alone (sheet_tables docket.now.book) docket.now.size.units docket.now.tally.held (legs_of claim.now) }
+    ensures bound { result ≤ 3 * 2 ^ 80 }
 {
     let two = leg_alone(docket, claim.first) + leg_alone(docket, claim.second);
     if claim.third == 0 {
@@ -69,20 +72,33 @@ fn set_alone(docket: &Docket<Sheet>, claim: &Claim) -> u128
     two + leg_alone(docket, claim.third)
 }
 
-// Of a claim. None where the book does not know it, or an amount would not fit, which is never so of a claim that stands.
-pub fn line_figures(docket: &Docket<Sheet>, claim: &Claim) -> Option<LineFigures>
-    ensures { IfSome result (LineShown (sheet_tables docket.now.book) docket.now.size.units docket.now.tally.held claim.now) }
+// An amount for each of so many sets.
+fn for_sets(sets: u64, each: u128) -> u128
+    requires sets { sets ≤ 5000 }
+    requires each { each ≤ 3 * 2 ^ 80 }
+    ensures value { result ≡ sets * each }
+    ensures bound { result ≤ 2 ^ 95 }
 {
+    u128::from(sets) * each
+}
+
+// Of a claim. None where its sets are not 1 to 5,000, or the book does not know it or refuses the set: never so of a claim that stands.
+#[tactic(auto, using(crate::proofs::Allowing::allowed_figures))]
+pub fn line_figures(docket: &Docket<Sheet>, claim: &Claim) -> Option<LineFigures>
+    ensures value { result ≡ line_figures (sheet_tables docket.now.book) docket.now.size.units docket.now.tally.held claim.now }
+    ensures allowed { Allowed (sheet_tables docket.now.book) docket.now.size.units docket.now.tally.held (set_of claim.now) → inside 1 5000 claim.now.sets ≡ true → IsSome result }
+{
+    if !(1..=5_000).contains(&claim.sets) {
+        return None;
+    }
     let set = set_requirement(docket, claim)?;
-    let line = u128::from(claim.sets) * u128::from(set);
-    let alone = u128::from(claim.sets).checked_mul(set_alone(docket, claim))?;
-    let saved = i128::try_from(alone)
-        .ok()?
-        .checked_sub(i128::try_from(line).ok()?)?;
+    let line = for_sets(claim.sets, u128::from(set));
+    let alone = for_sets(claim.sets, set_alone(docket, claim));
     Some(LineFigures {
         set,
         line,
         alone,
-        saved,
+        // Both are below 2^95, so the casts lose nothing.
+        saved: alone as i128 - line as i128,
     })
 }

@@ -1,7 +1,7 @@
 // What is worked out in the market of a docket's sheet: the parts of an option, and the term that gives the requirement of a claim's set.
-ghost use Rattle.std.specs.Prelude.{◌≡◌, IfSome, Ok};
+ghost use Rattle.std.specs.Prelude.{◌≡◌};
 ghost use Rattle.positions.specs.Records.{terms};
-ghost use Rattle.figures.specs.Shown.{term_by, quote_of, OptionShown};
+ghost use Rattle.figures.specs.Shown.{term_of, quote_of, OptionShown};
 
 use amounts::ContractSize;
 use articles::Article;
@@ -13,7 +13,7 @@ use positions::Record;
 use pricing::{Contract, Right};
 use workings::{OptionWorking, TermAmount, option_working, ruling_term};
 
-// In one market, if the article does not refuse the set.
+// In one market; none where the article refuses the set.
 fn term_in<M: Market>(
     market: &M,
     size: ContractSize,
@@ -21,7 +21,7 @@ fn term_in<M: Market>(
     article: Article,
     claim: &Claim,
 ) -> Option<TermAmount>
-    ensures { IfSome result (λ x. Ok x ≡ term_by (M.Market.quote market.now) size.units held.now article claim.now) }
+    ensures { result ≡ term_of (M.Market.quote market.now) size.units held.now article claim.now }
 {
     let contract = Contract { market, size };
     let first = at(held, claim.first);
@@ -32,9 +32,9 @@ fn term_in<M: Market>(
     ruling_term(&contract, article, &[first, second, at(held, claim.third)]).ok()
 }
 
-// In the market of the docket's sheet.
+// In the market of the docket's sheet; none where the article refuses the set.
 pub fn term_of(docket: &Docket<Sheet>, article: Article, claim: &Claim) -> Option<TermAmount>
-    ensures { IfSome result (λ x. Ok x ≡ term_by (quote_of docket.now.book) docket.now.size.units docket.now.tally.held article claim.now) }
+    ensures { result ≡ term_of (quote_of docket.now.book) docket.now.size.units docket.now.tally.held article claim.now }
 {
     let size = docket.size();
     let held = docket.positions();

@@ -1,7 +1,8 @@
 // What marks come to.
-ghost use Rattle.std.specs.Prelude.{◌≡◌, ◌^◌, pos, ◌-ℤ◌, ◌*ℤ◌, neg_ℤ, ◌≤ℤ◌, IfSome};
+ghost use Rattle.std.specs.Prelude.{◌≡◌, ◌^◌, pos, ◌*ℤ◌, neg_ℤ, ◌≤ℤ◌};
 ghost use Rattle.pairing.specs.Pairing.{mark, lot, worth};
 ghost use Rattle.breaches.specs.Search.{legs_in};
+ghost use Rattle.figures.specs.Shown.{gap_of};
 
 use books::Sheet;
 use breaches::Legs;
@@ -30,9 +31,9 @@ pub fn worth(docket: &Docket<Sheet>, marks: &[i64], legs: &Legs) -> i128
     }
 }
 
-// How far the floor lies under the total; none where the difference would not fit, which is never so.
+// How far the floor lies under the total; none where an `i128` does not hold it, which is never so of a docket.
 pub fn gap_of(total: u128, floor: i128) -> Option<i128>
-    ensures { IfSome result (λ gap. gap ≡ pos total -ℤ floor) }
+    ensures { result ≡ gap_of total floor }
 {
-    i128::try_from(total).ok()?.checked_sub(floor)
+    floor.checked_neg()?.checked_add_unsigned(total)
 }

@@ -1,256 +1,137 @@
-// A refused call of a file's line, in words, by the docket that the lines before it describe.
-use crate::legs::{book_words, no_position, short_of_units, twice};
-use crate::{Words, sheets};
+// A refused call of a file's line, in words, by what the lines before it describe.
+ghost use Rattle.std.specs.Prelude.{◌≡◌, IfOk};
+ghost use Rattle.reader.specs.Rates.{rates_on};
+ghost use Rattle.refusals.specs.Before.{before_in};
+ghost use Rattle.refusals.specs.Calls.{book_name, no_article_words, held_words, not_one_each_words, beyond_words, call_words};
+ghost use Rattle.refusals.specs.Words.{said};
+
+use crate::legs::{book_words, claim_on, no_position, short_of_units, twice};
+use crate::words::{Words, plain};
+use crate::{ranges, sheets};
 use books::{Book, Sheet};
-use dockets::{Docket, Refusal};
-use pairing::Claim;
-use positions::{Entry, Field, Kind, Range, day_range, price_range, quantity_range, strike_range};
-use reading::values::{claim_in, entry_in};
+use dockets::Refusal;
+use reading::Contents;
 use std::alloc::{AllocError, Global};
-use std::fmt;
 use wording::fields::place_of;
-use wording::names::ordinal;
 
-// A number with commas.
-#[derive(Clone, Copy, Debug, PartialEq, Eq)]
-struct Grouped(u64);
-
-impl fmt::Display for Grouped {
-    fn fmt<W: fmt::Write>(&self, f: &mut fmt::Formatter<W>) -> fmt::Result {
-        let thousands = self.0 / 1_000;
-        let ones = self.0 % 1_000;
-        match thousands {
-            0 => write!(f, "{ones}"),
-            1..=999 => write!(f, "{thousands},{ones:03}"),
-            _ => {
-                let millions = thousands / 1_000;
-                let thousands = thousands % 1_000;
-                write!(f, "{millions},{thousands:03},{ones:03}")
-            }
-        }
+// The book of a sheet.
+fn book_name(sheet: &Sheet) -> &'static str
+    ensures { result.now ≡ book_name (rates_on sheet.now) }
+{
+    match sheet {
+        Sheet::Share(_) => "share",
+        Sheet::Currency(_) => "currency",
     }
-}
-
-// A range from its lowest to its highest number.
-#[derive(Clone, Copy, Debug, PartialEq, Eq)]
-struct InWords(Range);
-
-impl fmt::Display for InWords {
-    fn fmt<W: fmt::Write>(&self, f: &mut fmt::Formatter<W>) -> fmt::Result {
-        let low = Grouped(self.0.low);
-        let high = Grouped(self.0.high);
-        if self.0.low == self.0.high {
-            return write!(f, "{low}");
-        }
-        write!(f, "{low} to {high}")
-    }
-}
-
-fn field_name(field: Field) -> &'static str {
-    match field {
-        Field::Side => "side",
-        Field::Kind => "kind",
-        Field::Strike => "strike",
-        Field::Days => "days",
-        Field::Price => "price",
-        Field::Quantity => "quantity",
-    }
-}
-
-// Whose field it is.
-fn whose(kind: Kind) -> &'static str {
-    match kind {
-        Kind::Units => "the units'",
-        Kind::Call => "a call's",
-        Kind::Put => "a put's",
-        Kind::Futures => "the futures'",
-        Kind::Receipt => "an escrow receipt's",
-    }
-}
-
-// A field that has a range, as a subject.
-fn subject(field: Field) -> &'static str {
-    match field {
-        Field::Side => "side is",
-        Field::Kind => "kind is",
-        Field::Strike => "strike is",
-        Field::Days => "days to expiry are",
-        Field::Price => "price is",
-        Field::Quantity => "quantity is",
-    }
-}
-
-// What a field counts.
-fn counted(field: Field, kind: Kind) -> &'static str {
-    match (field, kind) {
-        (Field::Strike | Field::Price, _) => " cents",
-        (Field::Quantity, Kind::Units) => " units, 5,000 times the contract size",
-        (Field::Quantity, _) => " contracts",
-        (Field::Side | Field::Kind | Field::Days, _) => "",
-    }
-}
-
-// What would be right for a field of a position.
-fn field_right(
-    heap: Global,
-    docket: &Docket<Sheet>,
-    field: Field,
-    kind: Kind,
-) -> Result<String, AllocError> {
-    let range = match field {
-        Field::Side => {
-            return format!(in heap; "L is long and S is short");
-        }
-        Field::Kind => {
-            return format!(in heap;
-                "U units, C call, P put, F futures, R escrow receipt, which is never short"
-            );
-        }
-        Field::Strike => strike_range(kind),
-        Field::Days => day_range(kind),
-        Field::Price => price_range(kind),
-        Field::Quantity => quantity_range(docket.size(), kind),
-    };
-    format!(in heap;
-        "{} {} {}{}",
-        whose(kind),
-        subject(field),
-        InWords(range),
-        counted(field, kind)
-    )
-}
-
-// A field of a position outside its range.
-fn field_words(
-    heap: Global,
-    docket: &Docket<Sheet>,
-    line: &[u8],
-    field: Field,
-) -> Result<Words, AllocError> {
-    let kind = entry_on(line)
-        .and_then(|entry| Kind::try_from(entry.kind).ok())
-        .unwrap_or(Kind::Units);
-    let number = usize::from(field.number());
-    Ok(Words {
-        place: Some(place_of(line, number)),
-        wrong: format!(in heap;
-            "the {} field ({}) is out of its range",
-            ordinal(number),
-            field_name(field)
-        )?,
-        right: field_right(heap, docket, field, kind)?,
-    })
-}
-
-// The position that a line sends.
-fn entry_on(line: &[u8]) -> Option<Entry> {
-    entry_in(line.strip_prefix(b"pos=")?, 5).ok()
-}
-
-// The claim that a line sends.
-fn claim_on(line: &[u8]) -> Claim {
-    line.strip_prefix(b"claim=")
-        .and_then(|value| claim_in(value, 7).ok())
-        .unwrap_or_default()
-}
-
-// Words that name no number but those of the rules.
-fn plain(heap: Global, place: usize, wrong: &str, right: &str) -> Result<Words, AllocError> {
-    Ok(Words {
-        place: Some(place),
-        wrong: format!(in heap; "{wrong}")?,
-        right: format!(in heap; "{right}")?,
-    })
 }
 
 // An article that the book has not.
-fn no_article(heap: Global, docket: &Docket<Sheet>, line: &[u8]) -> Result<Words, AllocError> {
+fn no_article(heap: Global, sheet: &Sheet, line: &[u8]) -> Result<Words, AllocError>
+    ensures { IfOk result (λ w. said w ≡ no_article_words (rates_on sheet.now) line.now) }
+{
     let article = claim_on(line).article;
-    let book = match docket.book() {
-        Sheet::Share(_) => "share",
-        Sheet::Currency(_) => "currency",
-    };
+    let book = book_name(sheet);
     Ok(Words {
         place: Some(place_of(line, 1)),
         wrong: format!(in heap; "there is no article {article}")?,
         right: format!(in heap;
             "the articles of the {book} book are 1 to {}",
-            docket.book().articles()
+            sheet.articles()
         )?,
+    })
+}
+
+// A position that is entered a second time.
+fn held_already(heap: Global, line: &[u8], position: usize) -> Result<Words, AllocError>
+    ensures { IfOk result (λ w. said w ≡ held_words line.now position) }
+{
+    Ok(Words {
+        place: Some(place_of(line, 1)),
+        wrong: format!(in heap; "position {position} has the same side, kind, strike and days")?,
+        right: String::from_str(heap, "a position is entered once, with its whole quantity")?,
+    })
+}
+
+// Marks that are not one for each position.
+fn not_one_each(heap: Global, given: usize, held: usize) -> Result<Words, AllocError>
+    ensures { IfOk result (λ w. said w ≡ not_one_each_words given held) }
+{
+    Ok(Words {
+        place: None,
+        wrong: format!(in heap; "{given} marks are given for {held} positions")?,
+        right: String::from_str(heap, "there is one mark for each position")?,
+    })
+}
+
+// A mark beyond its limit.
+fn beyond_limit(heap: Global, position: usize) -> Result<Words, AllocError>
+    ensures { IfOk result (λ w. said w ≡ beyond_words position) }
+{
+    Ok(Words {
+        place: None,
+        wrong: format!(in heap; "the mark of position {position} is beyond its limit")?,
+        right: String::from_str(heap, "a mark is within the limit of its position's kind")?,
     })
 }
 
 // A refused call by its refusal. A file makes no call of release and none of certify on a line.
 pub fn words(
     heap: Global,
-    docket: &Docket<Sheet>,
+    before: &Contents,
     line: &[u8],
     refusal: Refusal,
-) -> Result<Words, AllocError> {
+) -> Result<Words, AllocError>
+    ensures { IfOk result (λ w. said w ≡ call_words (before_in before.now) line.now refusal) }
+{
     match refusal {
         Refusal::SizeOutOfRange => sheets::size_words(heap),
-        Refusal::FieldOutOfRange(field) => field_words(heap, docket, line, field),
-        Refusal::AlreadyHeld(position) => Ok(Words {
-            place: Some(place_of(line, 1)),
-            wrong: format!(in heap;
-                "position {position} has the same side, kind, strike and days"
-            )?,
-            right: format!(in heap; "a position is entered once, with its whole quantity")?,
-        }),
+        Refusal::FieldOutOfRange(field) => ranges::words(heap, before.docket.size(), line, field),
+        Refusal::AlreadyHeld(position) => held_already(heap, line, position),
         Refusal::PositionsFull => plain(
             heap,
-            1,
+            Some(1),
             "32 positions are held already",
             "a docket holds at most 32 positions",
         ),
-        Refusal::NoSuchArticle => no_article(heap, docket, line),
+        Refusal::NoSuchArticle => no_article(heap, before.docket.book(), line),
         Refusal::SetsOutOfRange => plain(
             heap,
-            place_of(line, 5),
+            Some(place_of(line, 5)),
             "the fifth field (sets) is out of its range",
             "a claim is for 1 to 5,000 sets",
         ),
-        Refusal::NoSuchPosition(leg) => no_position(heap, docket, line, &claim_on(line), leg),
-        Refusal::PositionTwice(leg) => twice(heap, line, &claim_on(line), leg),
-        Refusal::BookRefuses(fault) => book_words(heap, docket, line, &claim_on(line), fault),
-        Refusal::UnitsShort(leg) => short_of_units(heap, docket, line, &claim_on(line), leg),
+        Refusal::NoSuchPosition(leg) => no_position(heap, before, line, leg),
+        Refusal::PositionTwice(leg) => twice(heap, line, leg),
+        Refusal::BookRefuses(fault) => book_words(heap, before, line, fault),
+        Refusal::UnitsShort(leg) => short_of_units(heap, before, line, leg),
         Refusal::ClaimsFull => plain(
             heap,
-            1,
+            Some(1),
             "64 lines of claims stand already",
             "a docket has at most 64 lines of claims",
         ),
         Refusal::ClaimTooLarge => plain(
             heap,
-            place_of(line, 5),
+            Some(place_of(line, 5)),
             "the line of claims would pass 5,000 sets",
             "a line of claims has at most 5,000 sets",
         ),
         Refusal::NoSuchClaim => plain(
             heap,
-            1,
+            Some(1),
             "no line of claims has this article and these legs",
             "sets are released from a line that stands",
         ),
         Refusal::MoreThanClaimed => plain(
             heap,
-            place_of(line, 5),
+            Some(place_of(line, 5)),
             "the line of claims has fewer sets",
             "at most the sets of the line are released",
         ),
-        Refusal::NotOneEach { given, held } => Ok(Words {
-            place: None,
-            wrong: format!(in heap; "{given} marks are given for {held} positions")?,
-            right: format!(in heap; "there is one mark for each position")?,
-        }),
-        Refusal::BeyondLimit(position) => Ok(Words {
-            place: None,
-            wrong: format!(in heap; "the mark of position {position} is beyond its limit")?,
-            right: format!(in heap; "a mark is within the limit of its position's kind")?,
-        }),
+        Refusal::NotOneEach { given, held } => not_one_each(heap, given, held),
+        Refusal::BeyondLimit(position) => beyond_limit(heap, position),
         Refusal::Unfair(_) => plain(
             heap,
-            1,
+            Some(1),
             "the marks are not fair",
             "no mark and no set's marks are above what is required",
         ),

@@ -1,56 +1,65 @@
 // Why a file is refused, in words: the line as it stands, a mark under the byte or the field that is named, what is wrong, and what would be right.
 #![tactic(auto)]
 
+ghost use Rattle.std.specs.Prelude.{◌≡◌, IfOk, string_bytes};
+ghost use Rattle.std.specs.Option.{option_map};
+ghost use Rattle.refusals.specs.Before.{before, before_in};
+ghost use Rattle.refusals.specs.Refused.{fault_words, place_text, refused_text};
+ghost use Rattle.refusals.specs.Words.{said};
+
 mod bad_lines;
 mod calls;
 mod legs;
+mod ranges;
 mod sheets;
+mod words;
 
+use bad_lines::BadLine;
 use files::load;
 use reader::faults::{LineFault, ReadFault};
+use reading::Contents;
 use std::alloc::{AllocError, Global};
 use wording::lines;
 use wording::shown::shown;
+use words::Words;
 
-// What is wrong with a line and what would be right, in words; and the byte of the line that is marked, from 1, if one is.
-#[derive(Debug, PartialEq, Eq, Drop)]
-pub struct Words {
-    pub place: Option<usize>,
-    pub wrong: String,
-    pub right: String,
+// What the lines before one describe. In the head they are no file that is accepted.
+fn before(file: &[u8], number: usize) -> Option<Contents>
+    ensures { option_map before_in result ≡ before file.now number }
+{
+    let mut marks = [0; 32];
+    load(lines::before(file, number), &mut marks).ok()
 }
 
-// What is wrong with the line at fault.
-fn words_of(
-    heap: Global,
-    file: &[u8],
-    line: &[u8],
-    fault: &ReadFault,
-) -> Result<Words, AllocError> {
-    // The lines before the one at fault are a file that is accepted, unless the fault is in the head.
-    let mut marks = [0; 32];
-    let before = load(lines::before(file, fault.line), &mut marks).ok();
-    match (fault.fault, before) {
+// What is wrong with a line.
+fn words_of(heap: Global, file: &[u8], number: usize, fault: LineFault) -> Result<Words, AllocError>
+    ensures { IfOk result (λ w. said w ≡ fault_words file.now number (before file.now number) fault) }
+{
+    let line = lines::at(file, number);
+    let before = before(file, number);
+    match (fault, before) {
         (LineFault::Bad { place, cause }, before) => {
-            let bad = bad_lines::BadLine {
+            let due = bad_lines::due(heap, file, number, before.as_ref())?;
+            let bad = BadLine {
                 file,
-                number: fault.line,
+                number,
                 line,
                 place,
+                due: due.as_str(),
             };
-            bad_lines::words(heap, &bad, before.as_ref(), cause)
+            bad.words(heap, cause)
         }
-        (LineFault::Sheet(_), _) => sheets::words(heap, file, fault.line),
-        (LineFault::Call(refusal), Some(before)) => {
-            calls::words(heap, &before.docket, line, refusal)
-        }
+        (LineFault::Sheet(_), _) => sheets::words(heap, file, number),
+        (LineFault::Call(refusal), Some(before)) => calls::words(heap, &before, line, refusal),
         // Before there is a docket, the only call is to open one.
         (LineFault::Call(_), None) => sheets::size_words(heap),
     }
 }
 
 // The byte that is marked, if one is.
-fn place_words(heap: Global, place: Option<usize>) -> Result<String, AllocError> {
+fn place_words(heap: Global, place: Option<usize>) -> Result<String, AllocError>
+    ensures { IfOk result (λ t. string_bytes t ≡ place_text place) }
+{
     match place {
         Some(place) => format!(in heap; ", byte {place}"),
         None => String::from_str(heap, ""),
@@ -58,12 +67,13 @@ fn place_words(heap: Global, place: Option<usize>) -> Result<String, AllocError>
 }
 
 // A file that cannot be read, in words.
-pub fn refused(heap: Global, file: &[u8], fault: &ReadFault) -> Result<String, AllocError> {
+pub fn refused(heap: Global, file: &[u8], fault: &ReadFault) -> Result<String, AllocError>
+    ensures { IfOk result (λ t. string_bytes t ≡ refused_text file.now fault.now) }
+{
     let number = fault.line;
-    let line = lines::at(file, number);
-    let words = words_of(heap, file, line, fault)?;
+    let words = words_of(heap, file, number, fault.fault)?;
     let at = place_words(heap, words.place)?;
-    let shown = shown(heap, line, words.place)?;
+    let shown = shown(heap, lines::at(file, number), words.place)?;
     format!(in heap;
         "The file is refused at line {number}{at}.\n\n{shown}\nWrong: {}.\nRight: {}.\n",
         words.wrong, words.right,

@@ -1,98 +1,166 @@
 // The claims standing: the rule that each set falls under, and what each line requires.
-use crate::columns::{NONE, amount, right};
+ghost use Rattle.std.specs.Prelude.{◌≡◌, IfOk, string_bytes};
+ghost use Rattle.wording.specs.Names.{article_of};
+ghost use Rattle.columns.specs.Columns.{rows_text};
+ghost use Rattle.statements.specs.Rules.{rules_on};
+ghost use Rattle.statements.specs.Claims.{legs_text, article_words, term_or_dash, term_under, set_text, claim_row, amount_columns, amount_row, claims_table, claims_section};
+
 use crate::terms::term_words;
+use articles::Article;
 use books::Sheet;
+use columns::columns::{amount, dash, left, number};
 use dockets::Docket;
-use figures::{line_figures, term_of};
+use figures::{LineFigures, line_figures, term_of};
 use money::Dollars;
 use pairing::Claim;
 use std::alloc::{AllocError, Global};
 use wording::names::{article_name, article_of};
-
-const CLAIM_HEADINGS: &str =
-    "No Article                   Legs       Sets          One set  By the term\n";
-
-const AMOUNT_HEADINGS: &str =
-    "No      All sets require      Their units alone                  Saved\n";
+use workings::TermAmount;
 
 // The legs by the numbers of their positions.
-pub fn legs_words(heap: Global, claim: &Claim) -> Result<String, AllocError> {
+#[tactic(auto, unfolding(crate::specs::Claims::legs_text))]
+pub fn legs_text(heap: Global, claim: &Claim) -> Result<String, AllocError>
+    ensures { IfOk result (λ t. string_bytes t ≡ legs_text claim.now) }
+{
     if claim.third == 0 {
         return format!(in heap; "{}, {}", claim.first, claim.second);
     }
     format!(in heap; "{}, {}, {}", claim.first, claim.second, claim.third)
 }
 
-// The name of the claim's article.
-fn article_words(docket: &Docket<Sheet>, claim: &Claim) -> &'static str {
-    article_of(docket.book(), claim.article).map_or(NONE, article_name)
-}
-
-// The term that gives the requirement of a set.
-fn term_of_line(docket: &Docket<Sheet>, claim: &Claim) -> &'static str {
-    let Some(article) = article_of(docket.book(), claim.article) else {
-        return NONE;
-    };
-    match term_of(docket, article, claim) {
-        Some(x) => term_words(article, x.term),
-        None => NONE,
+// The name of an article, or a dash.
+pub fn article_words(article: Option<Article>) -> &'static str
+    ensures { result.now ≡ article_words article }
+{
+    match article {
+        Some(article) => article_name(article),
+        None => "-",
     }
 }
 
-// What a line claims, and the term that gives the requirement of a set.
+// A term under an article, or a dash.
+fn term_or_dash(article: Article, term: Option<TermAmount>) -> &'static str
+    ensures { result.now ≡ term_or_dash article term }
+{
+    match term {
+        Some(x) => term_words(article, x.term),
+        None => "-",
+    }
+}
+
+// The term that gives the requirement of a set under an article, or a dash.
+fn term_under(docket: &Docket<Sheet>, claim: &Claim, article: Option<Article>) -> &'static str
+    ensures { result.now ≡ term_under (rules_on docket.now.book) docket.now.size.units docket.now.tally.held claim.now article }
+{
+    match article {
+        Some(article) => term_or_dash(article, term_of(docket, article, claim)),
+        None => "-",
+    }
+}
+
+// What a set requires, or a dash.
+fn set_column(heap: Global, figures: Option<LineFigures>) -> Result<String, AllocError>
+    ensures { IfOk result (λ t. string_bytes t ≡ set_text figures) }
+{
+    match figures {
+        Some(figures) => amount(heap, 16, Dollars::from(figures.set)),
+        None => dash(heap, 16),
+    }
+}
+
+// The row of what a line claims, with the term that gives the requirement of a set.
+#[tactic(auto, unfolding(crate::specs::Claims::claim_row))]
 fn claim_row(
     heap: Global,
-    out: &mut String,
     docket: &Docket<Sheet>,
-    number: u64,
+    place: u64,
     claim: &Claim,
-) -> Result<(), AllocError> {
-    let article = article_words(docket, claim);
-    let legs = legs_words(heap, claim)?;
-    write!(
-        out,
-        "{number:>2} {article:<25} {:<10} {:>4}",
-        legs.as_str(),
-        claim.sets
-    )?;
-    match line_figures(docket, claim) {
-        Some(figures) => amount(heap, out, 16, Dollars::from(figures.set))?,
-        None => right(out, 16, NONE)?,
-    }
-    let term = term_of_line(docket, claim);
-    writeln!(out, "  {term}")
+) -> Result<String, AllocError>
+    ensures { IfOk result (λ t. string_bytes t ≡ claim_row (rules_on docket.now.book) docket.now.size.units docket.now.tally.held place claim.now) }
+{
+    let article = article_of(docket.book(), claim.article);
+    let name = left(heap, 25, article_words(article))?;
+    let legs = legs_text(heap, claim)?;
+    let legs = left(heap, 10, legs.as_str())?;
+    let sets = number(heap, 4, claim.sets)?;
+    let set = set_column(heap, line_figures(docket, claim))?;
+    let term = term_under(docket, claim, article);
+    let place = number(heap, 2, place)?;
+    format!(in heap; "{place} {name} {legs} {sets} {set}  {term}\n")
 }
 
-// What a line requires.
+// What a line requires: its sets, the same units alone, and how much less the sets require.
+fn amount_columns(heap: Global, figures: Option<LineFigures>) -> Result<String, AllocError>
+    ensures { IfOk result (λ t. string_bytes t ≡ amount_columns figures) }
+{
+    let Some(figures) = figures else {
+        let line = dash(heap, 21)?;
+        let other = dash(heap, 22)?;
+        return format!(in heap; "{line} {other} {other}");
+    };
+    let line = amount(heap, 21, Dollars::from(figures.line))?;
+    let alone = amount(heap, 22, Dollars::from(figures.alone))?;
+    let saved = amount(heap, 22, Dollars::from(figures.saved))?;
+    format!(in heap; "{line} {alone} {saved}")
+}
+
+// The row of what a line requires, by its number.
+#[tactic(auto, unfolding(crate::specs::Claims::amount_row))]
 fn amount_row(
     heap: Global,
-    out: &mut String,
     docket: &Docket<Sheet>,
-    number: u64,
+    place: u64,
     claim: &Claim,
-) -> Result<(), AllocError> {
-    write!(out, "{number:>2}")?;
-    let Some(figures) = line_figures(docket, claim) else {
-        return writeln!(out, " {NONE:>21} {NONE:>22} {NONE:>22}");
-    };
-    amount(heap, out, 21, Dollars::from(figures.line))?;
-    amount(heap, out, 22, Dollars::from(figures.alone))?;
-    amount(heap, out, 22, Dollars::from(figures.saved))?;
-    out.push('\n')
+) -> Result<String, AllocError>
+    ensures { IfOk result (λ t. string_bytes t ≡ amount_row (rules_on docket.now.book) docket.now.size.units docket.now.tally.held place claim.now) }
+{
+    let amounts = amount_columns(heap, line_figures(docket, claim))?;
+    let place = number(heap, 2, place)?;
+    format!(in heap; "{place} {amounts}\n")
 }
 
-// All lines, in their order.
-pub fn section(heap: Global, out: &mut String, docket: &Docket<Sheet>) -> Result<(), AllocError> {
+// What each line claims.
+fn claim_rows(heap: Global, docket: &Docket<Sheet>) -> Result<String, AllocError>
+    ensures { IfOk result (λ t. string_bytes t ≡ rows_text (claim_row (rules_on docket.now.book) docket.now.size.units docket.now.tally.held) 1 docket.now.tally.claims) }
+{
+    let mut out = String::new(heap);
+    for (i, claim) in docket.claims().iter().enumerate() {
+        let row = claim_row(heap, docket, i as u64 + 1, claim)?;
+        out.push_str(row.as_str())?;
+    }
+    Ok(out)
+}
+
+// What each line requires.
+fn amount_rows(heap: Global, docket: &Docket<Sheet>) -> Result<String, AllocError>
+    ensures { IfOk result (λ t. string_bytes t ≡ rows_text (amount_row (rules_on docket.now.book) docket.now.size.units docket.now.tally.held) 1 docket.now.tally.claims) }
+{
+    let mut out = String::new(heap);
+    for (i, claim) in docket.claims().iter().enumerate() {
+        let row = amount_row(heap, docket, i as u64 + 1, claim)?;
+        out.push_str(row.as_str())?;
+    }
+    Ok(out)
+}
+
+// The headings and all lines, twice.
+#[tactic(auto, unfolding(crate::specs::Claims::claims_table))]
+fn table(heap: Global, docket: &Docket<Sheet>) -> Result<String, AllocError>
+    ensures { IfOk result (λ t. string_bytes t ≡ claims_table (rules_on docket.now.book) docket.now.size.units docket.now.tally) }
+{
+    let claims = claim_rows(heap, docket)?;
+    let amounts = amount_rows(heap, docket)?;
+    format!(in heap;
+        "\nClaims\n\nNo Article                   Legs       Sets          One set  By the term\n{claims}\nNo      All sets require      Their units alone                  Saved\n{amounts}"
+    )
+}
+
+// The word none where no claim stands, else the two tables.
+pub fn section(heap: Global, docket: &Docket<Sheet>) -> Result<String, AllocError>
+    ensures { IfOk result (λ t. string_bytes t ≡ claims_section (rules_on docket.now.book) docket.now.size.units docket.now.tally) }
+{
     if docket.claims().is_empty() {
-        return out.push_str("\nClaims\n\n  none\n");
+        return String::from_str(heap, "\nClaims\n\n  none\n");
     }
-    write!(out, "\nClaims\n\n{CLAIM_HEADINGS}")?;
-    for (number, claim) in (1_u64..).zip(docket.claims()) {
-        claim_row(heap, out, docket, number, claim)?;
-    }
-    write!(out, "\n{AMOUNT_HEADINGS}")?;
-    for (number, claim) in (1_u64..).zip(docket.claims()) {
-        amount_row(heap, out, docket, number, claim)?;
-    }
-    Ok(())
+    table(heap, docket)
 }

@@ -1,54 +1,67 @@
 // A docket's file as a page that can be read: the sheet, the positions, what each option and each claim requires and why, and the verdict.
 #![tactic(auto)]
 
+ghost use Rattle.std.specs.Prelude.{◌≡◌, IfOk, string_bytes};
+ghost use Rattle.writing.specs.Texts.{described};
+ghost use Rattle.statements.specs.Rules.{rules_on};
+ghost use Rattle.statements.specs.Laws.{Least};
+ghost use Rattle.statements.specs.Page.{page_under, too_long_text, statement_text};
+
 mod claims;
-mod columns;
 mod marks;
-mod options;
-mod positions_held;
-mod sheet;
 mod terms;
 mod verdict;
 
-use answers::{FileFault, answer_to};
+use answers::{FileFault, Summary, answer_to};
+use books::Sheet;
+use columns::{options, positions_held, sheet};
+use dockets::Docket;
 use files::load;
 use refusals::refused;
 use std::alloc::{AllocError, Global};
-use verdict::Certified;
 
-// The most bytes of a file, as the programs take it.
-const MOST: &str = "65,536";
-
-// The page of a file, or why the file is refused, in words.
-pub fn statement(heap: Global, file: &[u8]) -> Result<String, AllocError> {
-    let answer = answer_to(file);
-    if answer == Err(FileFault::TooLong) {
-        return format!(in heap;
-            "The file is refused.\n\nWrong: it has more than {MOST} bytes.\nRight: a file has at most {MOST} bytes.\n"
-        );
-    }
-    let mut marks = [0; 32];
-    let contents = match load(file, &mut marks) {
-        Ok(contents) => contents,
-        Err(fault) => return refused(heap, file, &fault),
-    };
-    let docket = &contents.docket;
-    let certified = Certified {
-        docket,
-        marks: &marks[..contents.marks],
-        answer,
-    };
-    page(heap, &certified)
+// The page of a docket and its marks, with what they are answered.
+#[tactic(auto, unfolding(crate::specs::Page::page_under))]
+fn page(
+    heap: Global,
+    docket: &Docket<Sheet>,
+    marks: &[i64],
+    answer: Result<Summary, FileFault>,
+) -> Result<String, AllocError>
+    ensures { IfOk result (λ t. string_bytes t ≡ page_under (rules_on docket.now.book) (described docket.now marks.now) answer) }
+{
+    let sheet = sheet::section(heap, docket)?;
+    let positions = positions_held::section(heap, docket)?;
+    let options = options::section(heap, docket)?;
+    let claims = claims::section(heap, docket)?;
+    let verdict = verdict::section(heap, docket, marks, answer)?;
+    format!(in heap; "{sheet}{positions}{options}{claims}{verdict}")
 }
 
-// The page of a docket and its marks.
-fn page(heap: Global, certified: &Certified) -> Result<String, AllocError> {
-    let docket = certified.docket;
-    let mut out = String::new(heap);
-    sheet::section(heap, &mut out, docket)?;
-    positions_held::section(heap, &mut out, docket)?;
-    options::section(heap, &mut out, docket)?;
-    claims::section(heap, &mut out, docket)?;
-    verdict::section(heap, &mut out, certified)?;
-    Ok(out)
+// A file that is too long.
+fn too_long(heap: Global) -> Result<String, AllocError>
+    ensures { IfOk result (λ t. string_bytes t ≡ too_long_text) }
+{
+    String::from_str(
+        heap,
+        "The file is refused.\n\nWrong: it has more than 65,536 bytes.\nRight: a file has at most 65,536 bytes.\n",
+    )
+}
+
+// The page of a file, or why the file is refused, in words.
+#[tactic(auto, using(crate::proofs::Least::least_of), unfolding(crate::specs::Page::statement_text))]
+pub fn statement(heap: Global, file: &[u8]) -> Result<String, AllocError>
+    ensures text { IfOk result (λ t. string_bytes t ≡ statement_text file.now) }
+    ensures least { Least file.now }
+{
+    let answer = answer_to(file);
+    // The same test as in answers and tariffs: a function for them would be no shorter.
+    if file.len() > 65_536 {
+        return too_long(heap);
+    }
+    let mut marks = [0; 32];
+    match load(file, &mut marks) {
+        Ok(contents) => page(heap, &contents.docket, &marks[..contents.marks], answer),
+        Err(fault) => refused(heap, file, &fault),
+    }
 }

@@ -1,19 +1,30 @@
 // Why marks are not certified, in words.
-use crate::claims::legs_words;
-use crate::columns::NONE;
-use crate::verdict::Certified;
-use books::Book;
+ghost use Rattle.std.specs.Prelude.{◌≡◌, IfOk, pos, string_bytes, unwrap_or};
+ghost use Rattle.books.specs.Books.{sheet_tables};
+ghost use Rattle.pairing.specs.Pairing.{at, mark, worth};
+ghost use Rattle.breaches.specs.Search.{legs_in};
+ghost use Rattle.wording.specs.Names.{article_of};
+ghost use Rattle.money.specs.Amounts.{amount};
+ghost use Rattle.figures.specs.Shown.{set_requirement};
+ghost use Rattle.statements.specs.Claims.{article_words};
+ghost use Rattle.statements.specs.Rules.{rules_on};
+ghost use Rattle.statements.specs.Marks.{limit_words, not_one_each, beyond_limit, above_alone, one_set, above_set, breach_words, other_words, refusal_words};
+
+use crate::claims::{article_words, legs_text};
+use books::{Book, Sheet};
 use breaches::{Breach, Legs};
-use dockets::Refusal;
+use dockets::{Docket, Refusal};
 use figures::{set_requirement, worth};
 use money::Dollars;
 use pairing::{Claim, at, mark};
 use positions::Kind;
 use std::alloc::{AllocError, Global};
-use wording::names::{article_name, article_of};
+use wording::names::article_of;
 
 // The limit of a position's mark.
-fn limit_words(kind: Kind) -> &'static str {
+fn limit_words(kind: Kind) -> &'static str
+    ensures { result.now ≡ limit_words kind }
+{
     match kind {
         Kind::Units => "a mark of units is within 50,000.00 of 0",
         Kind::Call | Kind::Put | Kind::Futures | Kind::Receipt =>
@@ -21,80 +32,164 @@ fn limit_words(kind: Kind) -> &'static str {
     }
 }
 
-impl Certified<'_> {
-    // A mark beyond its limit.
-    fn beyond_limit(&self, out: &mut String, position: usize) -> Result<(), AllocError> {
-        // A `usize` has 64 bits here, so the cast loses nothing.
-        let number = position as u64;
-        let kind = at(self.docket.positions(), number).kind;
-        let mark = Dollars::from(i128::from(mark(self.marks, number)));
-        let limit = limit_words(kind);
-        writeln!(
-            out,
-            "  Wrong: the mark of position {position} is {mark}.\n  Right: {limit}."
-        )
-    }
+// Marks that are not one each.
+#[tactic(auto, unfolding(crate::specs::Marks::not_one_each))]
+fn not_one_each(heap: Global, given: usize, held: usize) -> Result<String, AllocError>
+    ensures { IfOk result (λ t. string_bytes t ≡ not_one_each given held) }
+{
+    format!(in heap;
+        "  Wrong: {given} marks are given for {held} positions.\n  Right: there is one mark for each position.\n"
+    )
+}
 
-    // A mark above its position's requirement alone.
-    fn above_alone(&self, out: &mut String, position: u8) -> Result<(), AllocError> {
-        let number = u64::from(position);
-        let record = at(self.docket.positions(), number);
-        let alone = Dollars::from(self.docket.book().alone(self.docket.size(), &record));
-        let mark = Dollars::from(i128::from(mark(self.marks, number)));
-        writeln!(
-            out,
-            "  Wrong: the mark of position {position} is {mark}, and one of it requires {alone} alone.\n  Right: a mark is at most what one unit or contract of its position requires alone."
-        )
-    }
+// The mark of a position.
+fn mark_of(marks: &[i64], position: u64) -> Dollars
+    ensures { amount result ≡ mark marks.now position }
+{
+    Dollars::from(i128::from(mark(marks, position)))
+}
 
-    // The marks of an allowed set above its requirement.
-    fn above_set(
-        &self,
-        heap: Global,
-        out: &mut String,
-        article: u8,
-        legs: &Legs,
-    ) -> Result<(), AllocError> {
-        let claim = one_set(article, legs);
-        let name = article_of(self.docket.book(), claim.article).map_or(NONE, article_name);
-        let worth = Dollars::from(worth(self.docket, self.marks, legs));
-        let required = Dollars::from(set_requirement(self.docket, &claim).unwrap_or(0));
-        let positions = legs_words(heap, &claim)?;
-        writeln!(
-            out,
-            "  Wrong: the marks of article {article} ({name}) with the legs {positions} come to\n         {worth}, and a set requires {required}.\n  Right: the marks of what a set takes are at most what the set requires."
-        )
-    }
+// What one unit or contract of a position requires alone.
+fn alone_of(docket: &Docket<Sheet>, position: u64) -> Dollars
+    ensures { amount result ≡ pos ((sheet_tables docket.now.book).alone docket.now.size.units (at docket.now.tally.held position)) }
+{
+    let record = at(docket.positions(), position);
+    Dollars::from(docket.book().alone(docket.size(), &record))
+}
 
-    // Why the marks are refused. A file's answer names no other refusal here.
-    pub fn words(
-        &self,
-        heap: Global,
-        out: &mut String,
-        refusal: Refusal,
-    ) -> Result<(), AllocError> {
-        match refusal {
-            Refusal::NotOneEach { given, held } => writeln!(
-                out,
-                "  Wrong: {given} marks are given for {held} positions.\n  Right: there is one mark for each position."
-            ),
-            Refusal::BeyondLimit(position) => self.beyond_limit(out, position),
-            Refusal::Unfair(Breach::Alone { position }) => self.above_alone(out, position),
-            Refusal::Unfair(Breach::Set { article, legs }) => {
-                self.above_set(heap, out, article, &legs)
-            }
-            other => writeln!(out, "  Wrong: refusal {}.", other.number()),
-        }
-    }
+// The limit of a position's mark.
+fn limit_of(docket: &Docket<Sheet>, position: u64) -> &'static str
+    ensures { result.now ≡ limit_words (at docket.now.tally.held position).kind }
+{
+    limit_words(at(docket.positions(), position).kind)
+}
+
+// A mark beyond its limit.
+#[tactic(auto, unfolding(crate::specs::Marks::beyond_limit))]
+fn beyond_limit(
+    heap: Global,
+    docket: &Docket<Sheet>,
+    marks: &[i64],
+    position: usize,
+) -> Result<String, AllocError>
+    ensures { IfOk result (λ t. string_bytes t ≡ beyond_limit docket.now.tally.held marks.now position) }
+{
+    // A `usize` has 64 bits here, so the casts lose nothing.
+    let mark = mark_of(marks, position as u64);
+    let limit = limit_of(docket, position as u64);
+    format!(in heap; "  Wrong: the mark of position {position} is {mark}.\n  Right: {limit}.\n")
+}
+
+// A mark above its position's requirement alone.
+#[tactic(auto, unfolding(crate::specs::Marks::above_alone))]
+fn above_alone(
+    heap: Global,
+    docket: &Docket<Sheet>,
+    marks: &[i64],
+    position: u8,
+) -> Result<String, AllocError>
+    ensures { IfOk result (λ t. string_bytes t ≡ above_alone (sheet_tables docket.now.book) docket.now.size.units docket.now.tally.held marks.now position) }
+{
+    let number = u64::from(position);
+    let mark = mark_of(marks, number);
+    let alone = alone_of(docket, number);
+    format!(in heap;
+        "  Wrong: the mark of position {position} is {mark}, and one of it requires {alone} alone.\n  Right: a mark is at most what one unit or contract of its position requires alone.\n"
+    )
 }
 
 // One set under an article.
-fn one_set(article: u8, legs: &Legs) -> Claim {
+fn one_set(article: u8, legs: &Legs) -> Claim
+    ensures { result ≡ one_set article legs.now }
+{
     Claim {
         article: u64::from(article),
         first: u64::from(legs.first),
         second: u64::from(legs.second),
-        third: legs.third.map_or(0, u64::from),
+        third: u64::from(legs.third.unwrap_or(0)),
         sets: 1,
+    }
+}
+
+// The marks of what a set takes.
+fn worth_of(docket: &Docket<Sheet>, marks: &[i64], legs: &Legs) -> Dollars
+    ensures { amount result ≡ worth docket.now.size.units docket.now.tally.held marks.now (legs_in legs.now) }
+{
+    Dollars::from(worth(docket, marks, legs))
+}
+
+// The name of an article of the book.
+fn name_of(docket: &Docket<Sheet>, article: u8) -> &'static str
+    ensures { result.now ≡ article_words (article_of docket.now.book article) }
+{
+    article_words(article_of(docket.book(), u64::from(article)))
+}
+
+// What a set of a claim requires.
+fn required_of(docket: &Docket<Sheet>, claim: &Claim) -> Dollars
+    ensures { amount result ≡ pos (unwrap_or (set_requirement (sheet_tables docket.now.book) docket.now.size.units docket.now.tally.held claim.now) 0) }
+{
+    Dollars::from(set_requirement(docket, claim).unwrap_or(0))
+}
+
+// The marks of an allowed set above its requirement.
+#[tactic(auto, unfolding(crate::specs::Marks::above_set))]
+fn above_set(
+    heap: Global,
+    docket: &Docket<Sheet>,
+    marks: &[i64],
+    article: u8,
+    legs: &Legs,
+) -> Result<String, AllocError>
+    ensures { IfOk result (λ t. string_bytes t ≡ above_set (rules_on docket.now.book) docket.now.size.units docket.now.tally.held marks.now article legs.now) }
+{
+    let claim = one_set(article, legs);
+    let name = name_of(docket, article);
+    let positions = legs_text(heap, &claim)?;
+    let worth = worth_of(docket, marks, legs);
+    let required = required_of(docket, &claim);
+    format!(in heap;
+        "  Wrong: the marks of article {article} ({name}) with the legs {positions} come to\n         {worth}, and a set requires {required}.\n  Right: the marks of what a set takes are at most what the set requires.\n"
+    )
+}
+
+// A breach of fairness.
+fn breach_words(
+    heap: Global,
+    docket: &Docket<Sheet>,
+    marks: &[i64],
+    breach: Breach,
+) -> Result<String, AllocError>
+    ensures { IfOk result (λ t. string_bytes t ≡ breach_words (rules_on docket.now.book) docket.now.size.units docket.now.tally.held marks.now breach) }
+{
+    match breach {
+        Breach::Alone { position } => above_alone(heap, docket, marks, position),
+        Breach::Set { article, legs } => above_set(heap, docket, marks, article, &legs),
+    }
+}
+
+// A refusal that is not of marks, by its number.
+#[tactic(auto, unfolding(crate::specs::Marks::other_words))]
+fn other_words(heap: Global, refusal: Refusal) -> Result<String, AllocError>
+    ensures { IfOk result (λ t. string_bytes t ≡ other_words refusal) }
+{
+    let number = refusal.number();
+    format!(in heap; "  Wrong: refusal {number}.\n")
+}
+
+// Why the marks are refused. A file's answer names no other refusal here.
+pub fn refusal_words(
+    heap: Global,
+    docket: &Docket<Sheet>,
+    marks: &[i64],
+    refusal: Refusal,
+) -> Result<String, AllocError>
+    ensures { IfOk result (λ t. string_bytes t ≡ refusal_words (rules_on docket.now.book) docket.now.size.units docket.now.tally.held marks.now refusal) }
+{
+    match refusal {
+        Refusal::NotOneEach { given, held } => not_one_each(heap, given, held),
+        Refusal::BeyondLimit(position) => beyond_limit(heap, docket, marks, position),
+        Refusal::Unfair(breach) => breach_words(heap, docket, marks, breach),
+        other => other_words(heap, other),
     }
 }

@@ -1,20 +1,39 @@
 // The terms of the articles' rules, in words.
+ghost use Rattle.std.specs.Prelude.{◌≡◌};
+ghost use Rattle.statements.specs.Claims.{difference_words, term_words};
+
 use articles::Article;
 use workings::Term;
 
-// A term in words.
-pub fn term_words(article: Article, term: Term) -> &'static str {
-    match (term, article) {
-        (Term::ShortOption, _) => "the short option alone",
-        (Term::StrikeDifference, _) => "the difference of the strikes",
-        (Term::ShortCall, _) => "the short call alone",
-        (Term::ShortPut, _) => "the short put alone",
-        (Term::PutStrikeAboveCall, _) => "the put's strike above the call's",
-        (Term::LongUnits, _) => "the long units",
-        (Term::PriceAndPremiumLessStrike, _) => "price and premium less the strike",
-        (Term::TrackedAmount, _) => "the tracked amount",
-        (Term::ConversionDifference, Article::Reconversion) => "the difference of the reconversion",
-        (Term::ConversionDifference, _) => "the difference of the conversion",
-        (Term::NothingRequired, _) => "nothing is required",
+// The difference of a conversion or of a reconversion.
+fn difference_words(article: Article) -> &'static str
+    ensures { result.now ≡ difference_words article }
+{
+    match article {
+        Article::Reconversion => "the difference of the reconversion",
+        Article::CallSpread
+        | Article::PutSpread
+        | Article::Straddle
+        | Article::ProtectivePut
+        | Article::Conversion
+        | Article::ReceiptCall => "the difference of the conversion",
+    }
+}
+
+// A term of an article's rule.
+pub fn term_words(article: Article, term: Term) -> &'static str
+    ensures { result.now ≡ term_words article term }
+{
+    match term {
+        Term::ShortOption => "the short option alone",
+        Term::StrikeDifference => "the difference of the strikes",
+        Term::ShortCall => "the short call alone",
+        Term::ShortPut => "the short put alone",
+        Term::PutStrikeAboveCall => "the put's strike above the call's",
+        Term::LongUnits => "the long units",
+        Term::PriceAndPremiumLessStrike => "price and premium less the strike",
+        Term::TrackedAmount => "the tracked amount",
+        Term::ConversionDifference => difference_words(article),
+        Term::NothingRequired => "nothing is required",
     }
 }

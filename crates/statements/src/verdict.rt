@@ -1,73 +1,134 @@
 // The total, the floor, and what the one says of the other.
-use crate::columns::{amount, right};
+ghost use Rattle.std.specs.Prelude.{◌≡◌, IfOk, string_bytes};
+ghost use Rattle.statements.specs.Rules.{rules_on};
+ghost use Rattle.statements.specs.Verdict.{gap_words, verdict_words, floor_text, figure_lines, summary_words, fault_words, fault_lines, answer_words, verdict_section};
+
+use crate::marks::refusal_words;
 use answers::{FileFault, Summary, Verdict};
 use books::Sheet;
+use columns::columns::{amount, right};
 use dockets::Docket;
 use figures::gap_of;
 use money::Dollars;
 use std::alloc::{AllocError, Global};
 
-// A docket and its marks, with what its file is answered.
-#[derive(Drop)]
-pub struct Certified<'a> {
-    pub docket: &'a Docket<Sheet>,
-    pub marks: &'a [i64],
-    pub answer: Result<Summary, FileFault>,
+// How far the floor lies under the total.
+fn gap_words(heap: Global, gap: Option<i128>) -> Result<String, AllocError>
+    ensures { IfOk result (λ t. string_bytes t ≡ gap_words gap) }
+{
+    match gap {
+        Some(gap) => {
+            let gap = Dollars::from(gap);
+            format!(in heap; "gap: the floor lies under the total by {gap}\n")
+        }
+        None => String::from_str(heap, "gap: the floor lies under the total\n"),
+    }
 }
 
 // What the floor says of the total.
-fn verdict_words(out: &mut String, summary: &Summary) -> Result<(), AllocError> {
-    match (summary.verdict(), summary.floor) {
-        (Verdict::Least, _) => {
-            out.push_str("least: no lawful pairing of these positions costs less\n")
-        }
-        (Verdict::Gap, Some(floor)) => gap_words(out, gap_of(summary.total, floor)),
-        (Verdict::Gap, None) | (Verdict::Absent, _) => {
-            out.push_str("not certified: the file has no marks\n")
-        }
-    }
-}
-
-// How far the floor lies under the total.
-fn gap_words(out: &mut String, gap: Option<i128>) -> Result<(), AllocError> {
-    match gap.map(Dollars::from) {
-        Some(gap) => writeln!(out, "gap: the floor lies under the total by {gap}"),
-        None => out.push_str("gap: the floor lies under the total\n"),
-    }
-}
-
-// The total and the floor, if there is one; a line each.
-fn figure_lines(
+fn verdict_words(
     heap: Global,
-    out: &mut String,
+    verdict: Verdict,
     total: u128,
     floor: Option<i128>,
-) -> Result<(), AllocError> {
-    out.push_str("  Total   ")?;
-    amount(heap, out, 27, Dollars::from(total))?;
-    out.push_str("\n  Floor   ")?;
-    match floor {
-        Some(floor) => amount(heap, out, 27, Dollars::from(floor))?,
-        None => right(out, 27, "none")?,
+) -> Result<String, AllocError>
+    ensures { IfOk result (λ t. string_bytes t ≡ verdict_words verdict total floor) }
+{
+    match (verdict, floor) {
+        (Verdict::Least, _) => String::from_str(
+            heap,
+            "least: no lawful pairing of these positions costs less\n",
+        ),
+        (Verdict::Gap, Some(floor)) => gap_words(heap, gap_of(total, floor)),
+        (Verdict::Gap, None) | (Verdict::Absent, _) => {
+            String::from_str(heap, "not certified: the file has no marks\n")
+        }
     }
-    out.push_str("\n  Verdict  ")
 }
 
-// The figures and the verdict, or why the marks are refused.
-pub fn section(heap: Global, out: &mut String, certified: &Certified) -> Result<(), AllocError> {
-    out.push_str("\nTotal and floor\n\n")?;
-    match &certified.answer {
-        Ok(summary) => {
-            figure_lines(heap, out, summary.total, summary.floor)?;
-            verdict_words(out, summary)
-        }
-        Err(fault) => {
-            figure_lines(heap, out, certified.docket.total(), None)?;
-            out.push_str("not certified: the marks are refused\n\n")?;
-            match fault {
-                FileFault::Certify(refusal) => certified.words(heap, out, *refusal),
-                FileFault::TooLong | FileFault::Read(_) => Ok(()),
-            }
-        }
+// The floor, or none.
+fn floor_column(heap: Global, floor: Option<i128>) -> Result<String, AllocError>
+    ensures { IfOk result (λ t. string_bytes t ≡ floor_text floor) }
+{
+    match floor {
+        Some(floor) => amount(heap, 27, Dollars::from(floor)),
+        None => right(heap, 27, "none"),
     }
+}
+
+// The total and the floor, a line each, and the label of the verdict.
+#[tactic(auto, unfolding(crate::specs::Verdict::figure_lines))]
+fn figure_lines(heap: Global, total: u128, floor: Option<i128>) -> Result<String, AllocError>
+    ensures { IfOk result (λ t. string_bytes t ≡ figure_lines total floor) }
+{
+    let total = amount(heap, 27, Dollars::from(total))?;
+    let floor = floor_column(heap, floor)?;
+    format!(in heap; "  Total    {total}\n  Floor    {floor}\n  Verdict  ")
+}
+
+// The figures and their verdict.
+fn summary_words(heap: Global, summary: &Summary) -> Result<String, AllocError>
+    ensures { IfOk result (λ t. string_bytes t ≡ summary_words summary.now) }
+{
+    let figures = figure_lines(heap, summary.total, summary.floor)?;
+    let verdict = verdict_words(heap, summary.verdict(), summary.total, summary.floor)?;
+    format!(in heap; "{figures}{verdict}")
+}
+
+// Why the marks are refused; the fault of a file that is read is of its marks.
+fn fault_words(
+    heap: Global,
+    docket: &Docket<Sheet>,
+    marks: &[i64],
+    fault: FileFault,
+) -> Result<String, AllocError>
+    ensures { IfOk result (λ t. string_bytes t ≡ fault_words (rules_on docket.now.book) docket.now.size.units docket.now.tally.held marks.now fault) }
+{
+    match fault {
+        FileFault::Certify(refusal) => refusal_words(heap, docket, marks, refusal),
+        FileFault::TooLong | FileFault::Read(_) => String::from_str(heap, ""),
+    }
+}
+
+// The total without a floor, and why the marks are refused.
+fn fault_lines(
+    heap: Global,
+    docket: &Docket<Sheet>,
+    marks: &[i64],
+    fault: FileFault,
+) -> Result<String, AllocError>
+    ensures { IfOk result (λ t. string_bytes t ≡ fault_lines (rules_on docket.now.book) docket.now.size.units docket.now.tally marks.now fault) }
+{
+    let figures = figure_lines(heap, docket.total(), None)?;
+    let words = fault_words(heap, docket, marks, fault)?;
+    format!(in heap; "{figures}not certified: the marks are refused\n\n{words}")
+}
+
+// What the docket and its marks are answered.
+fn answer_words(
+    heap: Global,
+    docket: &Docket<Sheet>,
+    marks: &[i64],
+    answer: Result<Summary, FileFault>,
+) -> Result<String, AllocError>
+    ensures { IfOk result (λ t. string_bytes t ≡ answer_words (rules_on docket.now.book) docket.now.size.units docket.now.tally marks.now answer) }
+{
+    match answer {
+        Ok(summary) => summary_words(heap, &summary),
+        Err(fault) => fault_lines(heap, docket, marks, fault),
+    }
+}
+
+// The heading, and what the docket and its marks are answered.
+#[tactic(auto, unfolding(crate::specs::Verdict::verdict_section))]
+pub fn section(
+    heap: Global,
+    docket: &Docket<Sheet>,
+    marks: &[i64],
+    answer: Result<Summary, FileFault>,
+) -> Result<String, AllocError>
+    ensures { IfOk result (λ t. string_bytes t ≡ verdict_section (rules_on docket.now.book) docket.now.size.units docket.now.tally marks.now answer) }
+{
+    let words = answer_words(heap, docket, marks, answer)?;
+    format!(in heap; "\nTotal and floor\n\n{words}")
 }

@@ -1,1 +1,5 @@
 pub mod Names
+pub mod Lines
+pub mod Fields
+pub mod Forms
+pub mod Shown

@@ -1,4 +1,6 @@
 // The lines of a file: their keys, their fields, and what a field may be.
+ghost use Rattle.std.specs.Prelude.{◌≡◌, map};
+ghost use Rattle.wording.specs.Forms.{form_words, key_text, line_words, field_names, form_of, kind_of, due_kind};
 
 // A line by what it is for.
 #[derive(Clone, Copy, Debug, PartialEq, Eq)]
@@ -29,7 +31,9 @@ pub enum FieldForm {
 
 impl FieldForm {
     // What the field may be, in words.
-    pub fn words(self) -> &'static str {
+    pub fn words(self) -> &'static str
+        ensures { result.now ≡ form_words self }
+    {
         match self {
             FieldForm::Number => "a number has 1 to 15 digits and no leading zero",
             FieldForm::Rate => "a number, of 1 to 15 digits with no leading zero, or none",
@@ -57,7 +61,10 @@ impl LineKind {
         LineKind::Mark,
     ];
 
-    pub fn key(self) -> &'static str {
+    // What the line begins with.
+    pub fn key(self) -> &'static str
+        ensures { result.now ≡ key_text self }
+    {
         match self {
             LineKind::Size => "size=",
             LineKind::Market => "market=",
@@ -74,7 +81,9 @@ impl LineKind {
     }
 
     // The whole line, in words.
-    pub fn words(self) -> &'static str {
+    pub fn words(self) -> &'static str
+        ensures { result.now ≡ line_words self }
+    {
         match self {
             LineKind::Size => "size= and the units in a contract, a number",
             LineKind::Market => "market=share or market=currency",
@@ -93,7 +102,9 @@ impl LineKind {
     }
 
     // The names of its fields.
-    pub fn fields(self) -> &'static [&'static str] {
+    pub fn fields(self) -> &'static [&'static str]
+        ensures { map (λ name. name.now) result.now ≡ field_names self }
+    {
         match self {
             LineKind::Size => &["contract size"],
             LineKind::Market => &["market"],
@@ -110,7 +121,9 @@ impl LineKind {
     }
 
     // What may stand in a field, by its number.
-    pub fn form(self, field: usize) -> FieldForm {
+    pub fn form(self, field: usize) -> FieldForm
+        ensures { result ≡ form_of self field }
+    {
         match (self, field) {
             (LineKind::Market, _) => FieldForm::Market,
             (LineKind::Reduced, _) => FieldForm::Answer,
@@ -122,17 +135,19 @@ impl LineKind {
     }
 
     // The kind whose key a line begins with.
-    pub fn of(line: &[u8]) -> Option<LineKind> {
-        for kind in LineKind::ALL {
-            if line.strip_prefix(kind.key().as_bytes()).is_some() {
-                return Some(kind);
-            }
-        }
-        None
+    pub fn of(line: &[u8]) -> Option<LineKind>
+        ensures { result ≡ kind_of line.now }
+    {
+        LineKind::ALL
+            .iter()
+            .copied()
+            .find(|kind| line.starts_with(kind.key().as_bytes()))
     }
 
     // The kind that a line of the head has to be, by its number and the market's name; none after the head.
-    pub fn due(number: usize, currency: bool) -> Option<LineKind> {
+    pub fn due(number: usize, currency: bool) -> Option<LineKind>
+        ensures { result ≡ due_kind number currency }
+    {
         match (number, currency) {
             (1, _) => Some(LineKind::Size),
             (2, _) => Some(LineKind::Market),

@@ -1,19 +1,23 @@
 // Names of what a docket has.
 ghost use Rattle.std.specs.Prelude.{◌≡◌};
-ghost use Rattle.wording.specs.Names.{article_of};
+ghost use Rattle.wording.specs.Names.{side_name, kind_name, article_name, article_of, ordinal};
 
 use articles::Article;
 use books::Sheet;
 use positions::{Kind, Side};
 
-pub fn side_name(side: Side) -> &'static str {
+pub fn side_name(side: Side) -> &'static str
+    ensures { result.now ≡ side_name side }
+{
     match side {
         Side::Long => "long",
         Side::Short => "short",
     }
 }
 
-pub fn kind_name(kind: Kind) -> &'static str {
+pub fn kind_name(kind: Kind) -> &'static str
+    ensures { result.now ≡ kind_name kind }
+{
     match kind {
         Kind::Units => "units",
         Kind::Call => "call",
@@ -23,7 +27,9 @@ pub fn kind_name(kind: Kind) -> &'static str {
     }
 }
 
-pub fn article_name(article: Article) -> &'static str {
+pub fn article_name(article: Article) -> &'static str
+    ensures { result.now ≡ article_name article }
+{
     match article {
         Article::CallSpread => "call spread",
         Article::PutSpread => "put spread",
@@ -52,7 +58,9 @@ pub fn article_of(sheet: &Sheet, number: u64) -> Option<Article>
 }
 
 // A number of a field or a leg, in a word.
-pub fn ordinal(number: usize) -> &'static str {
+pub fn ordinal(number: usize) -> &'static str
+    ensures { result.now ≡ ordinal number }
+{
     match number {
         1 => "first",
         2 => "second",

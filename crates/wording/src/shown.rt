@@ -1,11 +1,17 @@
 // A line as it stands in the file, with a mark under one of its bytes; nothing is wider than 100 columns.
+ghost use Rattle.std.specs.Prelude.{◌≡◌, ◌<◌, ◌≤◌, ◌++◌, map, IfOk, OnOk, string_bytes};
+ghost use Rattle.wording.specs.Shown.{shown_byte, hidden, dots, spaces, nothing, mark_text, part_text, shown_text};
+
 use std::alloc::{AllocError, Global};
 
 // How many bytes of a line are shown.
 const SHOWN: usize = 88;
 
 // A byte that is no printable ASCII is shown as ?.
-fn printable(byte: u8) -> char {
+fn printable(byte: u8) -> char
+    ensures value { result ≡ shown_byte byte }
+    ensures ascii { result < 128 }
+{
     match byte {
         b' '..=b'~' => char::from(byte),
         _ => '?',
@@ -13,19 +19,55 @@ fn printable(byte: u8) -> char {
 }
 
 // The bytes that are shown before the one at a place are at most 79, so that it is seen.
-fn bytes_hidden(place: usize) -> usize {
+fn bytes_hidden(place: usize) -> usize
+    ensures { result ≡ hidden place }
+{
     if place > 80 { place - 60 } else { 0 }
 }
 
-fn spaces(out: &mut String, count: usize) -> Result<(), AllocError> {
+// Three points stand for bytes that are not shown.
+fn dots(cut: bool) -> &'static str
+    ensures { result.now ≡ dots cut }
+{
+    if cut { "..." } else { "" }
+}
+
+// Said of a line with nothing on it.
+fn nothing(line: &[u8]) -> &'static str
+    ensures { result.now ≡ nothing line.now }
+{
+    if line.is_empty() {
+        "(there is nothing on this line)"
+    } else {
+        ""
+    }
+}
+
+fn spaces(out: &mut String, count: usize) -> Result<(), AllocError>
+    ensures { OnOk result (string_bytes out.new ≡ string_bytes out.old ++ spaces count) }
+{
     for _ in 0..count {
         out.push(' ')?;
     }
     Ok(())
 }
 
+fn printed(out: &mut String, bytes: &[u8]) -> Result<(), AllocError>
+    ensures { OnOk result (string_bytes out.new ≡ string_bytes out.old ++ map shown_byte bytes.now) }
+{
+    for byte in bytes {
+        out.push(printable(*byte))?;
+    }
+    Ok(())
+}
+
 // The mark under the byte at a place, where so many bytes before are not shown.
-fn mark(out: &mut String, place: usize, hidden: usize) -> Result<(), AllocError> {
+fn mark(out: &mut String, place: Option<usize>, hidden: usize) -> Result<(), AllocError>
+    ensures { OnOk result (string_bytes out.new ≡ string_bytes out.old ++ mark_text place hidden) }
+{
+    let Some(place) = place else {
+        return Ok(());
+    };
     let cut = if hidden > 0 { 3 } else { 0 };
     spaces(out, 2)?;
     spaces(out, cut)?;
@@ -33,24 +75,25 @@ fn mark(out: &mut String, place: usize, hidden: usize) -> Result<(), AllocError>
     out.push_str("^\n")
 }
 
-// The line, and a line with the mark. Where bytes of a long line are not shown, three points stand for them.
-pub fn shown(heap: Global, line: &[u8], place: Option<usize>) -> Result<String, AllocError> {
-    let hidden = bytes_hidden(place.unwrap_or(1));
-    let rest = line.get(hidden..).unwrap_or(&[]);
+// The bytes of a line from the first that is shown.
+fn part(out: &mut String, rest: &[u8]) -> Result<(), AllocError>
+    ensures { OnOk result (string_bytes out.new ≡ string_bytes out.old ++ part_text rest.now) }
+{
     let part = rest.get(..SHOWN).unwrap_or(rest);
-    let mut out = String::from_str(heap, if hidden > 0 { "  ..." } else { "  " })?;
-    for byte in part {
-        out.push(printable(*byte))?;
-    }
-    if part.len() < rest.len() {
-        out.push_str("...")?;
-    }
-    if line.is_empty() {
-        out.push_str("(there is nothing on this line)")?;
-    }
-    out.push('\n')?;
-    if let Some(place) = place {
-        mark(&mut out, place, hidden)?;
-    }
+    printed(out, part)?;
+    out.push_str(dots(rest.len() > SHOWN))
+}
+
+// The line, and a line with the mark. Where bytes of a long line are not shown, three points stand for them.
+pub fn shown(heap: Global, line: &[u8], place: Option<usize>) -> Result<String, AllocError>
+    ensures { IfOk result (λ t. string_bytes t ≡ shown_text line.now place) }
+{
+    let hidden = bytes_hidden(place.unwrap_or(1));
+    let mut out = String::from_str(heap, "  ")?;
+    out.push_str(dots(hidden > 0))?;
+    part(&mut out, line.get(hidden..).unwrap_or(&[]))?;
+    out.push_str(nothing(line))?;
+    out.push_str("\n")?;
+    mark(&mut out, place, hidden)?;
     Ok(out)
 }

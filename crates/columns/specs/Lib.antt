@@ -1,0 +1,4 @@
+pub mod Columns
+pub mod Sheet
+pub mod Positions
+pub mod Options

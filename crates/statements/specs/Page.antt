@@ -1,0 +1,40 @@
+-- The page of a file.
+use Rattle.std.specs.Prelude.{ℕ, List, ◌++◌, length, Ok, Err, codes, Result, cond, nat_le}
+use Rattle.reader.specs.declared.faults.ReadFault.{ReadFault}
+use Rattle.reading.specs.Files.{Content, read_file}
+use Rattle.answers.specs.declared.FileFault.{FileFault}
+use Rattle.answers.specs.declared.Summary.{Summary}
+use Rattle.answers.specs.Answers.{summary_in}
+use Rattle.refusals.specs.Refused.{refused_text}
+use Rattle.columns.specs.Sheet.{sheet_section}
+use Rattle.columns.specs.Positions.{positions_section}
+use Rattle.columns.specs.Options.{options_section}
+use Rattle.statements.specs.Rules.{Rules, rules_by}
+use Rattle.statements.specs.Claims.{claims_section}
+use Rattle.statements.specs.Verdict.{verdict_section}
+
+-- the sections in their order, under some rules, with what the docket and its marks are answered
+unfoldable pub page_under : Rules → Content → Result Summary FileFault → List ℕ
+page_under b c answer =
+    sheet_section c.rates c.size
+    ++ (positions_section b.tables c.size c.tally
+    ++ (options_section b.quote c.size c.tally.held
+    ++ (claims_section b c.size c.tally
+    ++ verdict_section b c.size c.tally c.marks answer)))
+
+-- under the rules of its sheet, with what it is answered
+abbrev pub page_text : Content → List ℕ
+page_text c = page_under (rules_by c.rates) c (summary_in c)
+
+-- a file that is too long
+abbrev pub too_long_text : List ℕ
+too_long_text = codes "The file is refused.\n\nWrong: it has more than 65,536 bytes.\nRight: a file has at most 65,536 bytes.\n"
+
+-- the page of what was read, or why it is refused
+abbrev pub read_text : List ℕ → Result Content ReadFault → List ℕ
+read_text file (Ok c) = page_text c
+read_text file (Err f) = refused_text file f
+
+-- the page of the bytes of a file; the length is tested first
+unfoldable pub statement_text : List ℕ → List ℕ
+statement_text file = cond (nat_le (length file) 65536) (read_text file (read_file file)) too_long_text
