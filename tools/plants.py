@@ -101,11 +101,13 @@ def sites(root, crate, only):
                     put("constant", i, line[:m.start()] + "b'" + chr(ord(c) + 1) + "'" + line[m.end():])
             for m in re.finditer(r"(?<!b)'(\w)'", bare):
                 put("constant", i, line[:m.start()] + "'" + chr(ord(m.group(1)) + 1) + "'" + line[m.end():])
-            for m in re.finditer(r'"([^"\\]+)', line):
+            for m in re.finditer(r'"([^"\\]*)(?:\\.[^"\\]*)*"', line):
                 t = m.group(1)
+                if not t:
+                    continue
                 if len(t) > 1:
-                    put("text", i, line[:m.start() + 1] + t[:-2] + t[-1] + t[-2] + line[m.end():])
-                put("text", i, line[:m.start() + 1] + t[1:] + line[m.end():])
+                    put("text", i, line[:m.start() + 1] + t[:-2] + t[-1] + t[-2] + line[m.end(1):])
+                put("text", i, line[:m.start() + 1] + t[1:] + line[m.end(1):])
             for m in re.finditer(r"&&|\|\|", bare):
                 put("logic", i, line[:m.start()] + ("||" if m.group() == "&&" else "&&") + line[m.end():])
             for m in re.finditer(r"(?<=[ (])!(?=[\w(])", bare):
