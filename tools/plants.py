@@ -288,4 +288,5 @@ def main():
           f"{no_program} were no program; {places} places", flush=True)
 
 
-main()
+if __name__ == "__main__":
+    main()

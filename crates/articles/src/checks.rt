@@ -11,7 +11,12 @@ use market::Market;
 use positions::{Kind, Record, Side};
 
 // A leg has its side and its kind.
-pub fn leg_is(leg: Leg, side: Side, kind: Kind, position: &Record) -> Result<(), ArticleFault>
+pub(crate) fn leg_is(
+    leg: Leg,
+    side: Side,
+    kind: Kind,
+    position: &Record,
+) -> Result<(), ArticleFault>
     ensures { result ≡ leg_is leg side kind (terms position.now) }
 {
     if position.side == side && position.kind == kind {
@@ -21,7 +26,7 @@ pub fn leg_is(leg: Leg, side: Side, kind: Kind, position: &Record) -> Result<(),
 }
 
 // The second leg expires no later than the first.
-pub fn not_later(first: &Record, second: &Record) -> Result<(), ArticleFault>
+pub(crate) fn not_later(first: &Record, second: &Record) -> Result<(), ArticleFault>
     ensures { result ≡ not_later (terms first.now) (terms second.now) }
 {
     if second.days > first.days {
@@ -31,7 +36,7 @@ pub fn not_later(first: &Record, second: &Record) -> Result<(), ArticleFault>
 }
 
 // The other legs expire with the first.
-pub fn same_days(first: &Record, second: &Record, third: &Record) -> Result<(), ArticleFault>
+pub(crate) fn same_days(first: &Record, second: &Record, third: &Record) -> Result<(), ArticleFault>
     ensures { result ≡ same_days (terms first.now) (terms second.now) (terms third.now) }
 {
     if second.days != first.days {
@@ -44,7 +49,7 @@ pub fn same_days(first: &Record, second: &Record, third: &Record) -> Result<(), 
 }
 
 // The tracking rate of the price, for a unit; refused where the market has no such rate.
-pub fn tracked_amount<M: Market>(market: &M) -> Result<UnitAmount, ArticleFault>
+pub(crate) fn tracked_amount<M: Market>(market: &M) -> Result<UnitAmount, ArticleFault>
     ensures { result_map_both parts_in (λ f. f) result ≡ tracked (M.Market.quote market.now) }
 {
     let rate = market::tracking(market)?;

@@ -10,7 +10,7 @@ use positions::{Record, Side};
 use pricing::{Contract, Right, above};
 
 // The strikes' difference, larger less smaller.
-pub fn strikes_apart(long: Cents, short: Cents) -> Cents
+pub(crate) fn strikes_apart(long: Cents, short: Cents) -> Cents
     ensures { result.amount ≡ apart long.amount short.amount }
 {
     Cents {
@@ -19,7 +19,7 @@ pub fn strikes_apart(long: Cents, short: Cents) -> Cents
 }
 
 // A spread: the lesser of the short option alone and the strikes' difference.
-pub fn spread_amount<M: Market>(
+pub(crate) fn spread_amount<M: Market>(
     contract: &Contract<M>,
     right: Right,
     long: &Record,
@@ -35,7 +35,7 @@ pub fn spread_amount<M: Market>(
 }
 
 // A straddle: the greatest of either option alone and the put's strike above the call's.
-pub fn straddle_amount<M: Market>(contract: &Contract<M>, call: &Record, put: &Record) -> u64
+pub(crate) fn straddle_amount<M: Market>(contract: &Contract<M>, call: &Record, put: &Record) -> u64
     ensures { result ≡ straddle_amount contract.now.quote contract.now.size (terms call.now) (terms put.now) }
 {
     let above = above(put.strike_cents(), call.strike_cents());
@@ -48,7 +48,7 @@ pub fn straddle_amount<M: Market>(contract: &Contract<M>, call: &Record, put: &R
 }
 
 // A protective put: the lesser of a contract's long units and the price plus the premium less the strike.
-pub fn protective_put_amount<M: Market>(contract: &Contract<M>, put: &Record) -> u64
+pub(crate) fn protective_put_amount<M: Market>(contract: &Contract<M>, put: &Record) -> u64
     ensures { result ≡ protective_put_amount contract.now.quote contract.now.size (terms put.now) }
 {
     let paid = contract.market.price().parts() + put.price_cents().parts();
@@ -68,7 +68,11 @@ fn sum(a: Cents, b: Cents) -> UnitAmount
 }
 
 // A conversion, of the long side, and a reconversion, of the short one: the greater of the tracked amount and a difference, which may be negative.
-pub fn conversion_amount(size: ContractSize, tracked: UnitAmount, legs: &ConversionLegs) -> u64
+pub(crate) fn conversion_amount(
+    size: ContractSize,
+    tracked: UnitAmount,
+    legs: &ConversionLegs,
+) -> u64
     ensures { pos result ≡ converted_amount size.units tracked.parts legs.now.side (terms legs.now.put.now) (terms legs.now.call.now) (terms legs.now.futures.now) }
 {
     let ConversionLegs {

@@ -5,7 +5,7 @@
 use answers::{Answer, answer_to};
 use reading::read;
 use std::fs;
-use writing::{WriteFault, write};
+use writing::write;
 
 // Whether a file is answered as it should be.
 fn answers(rt: &HostRuntime, file: &[u8], expected: &[u8]) -> anyhow::Result<bool> {
@@ -28,7 +28,8 @@ fn rewrites(rt: &HostRuntime, file: &[u8]) -> anyhow::Result<Option<bool>> {
     let written = write(heap, &contents.docket, marks, room.as_mut_slice());
     let refused = write(heap, &contents.docket, marks, short.as_mut_slice());
     let whole = matches!(written, Ok(n) if n == file.len()) && room.as_slice() == file;
-    let asked = matches!(refused, Err(WriteFault::Short(n)) if n == file.len());
+    let asked =
+        matches!(refused, Err(fault) if fault.number() == 21 && fault.details().one == file.len());
     Ok(Some(whole && asked))
 }
 

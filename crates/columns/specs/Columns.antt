@@ -1,11 +1,7 @@
 -- Texts in the columns of a page.
 use Rattle.std.specs.Prelude.{ℕ, ◌+◌, ◌-◌, ◌*◌, ◌/◌, ◌%◌, List, [], ◌∷◌, ◌++◌, length, ℤ, pos, Some, None, codes, decimal, Option}
-use Rattle.std.specs.List.{repeat}
 use Rattle.money.specs.Texts.{dollars_text}
-
--- so many spaces
-unfoldable pub spaces : ℕ → List ℕ
-spaces count = repeat count (codes " ")
+use Rattle.wording.specs.Shown.{spaces}
 
 -- a text at the left of so many columns
 unfoldable pub left_text : ℕ → List ℕ → List ℕ

@@ -5,19 +5,12 @@ ghost use Rattle.amounts.specs.Rates.{points};
 ghost use Rattle.market.specs.Quote.{cents_in};
 ghost use Rattle.money.specs.Amounts.{amount};
 ghost use Rattle.money.specs.Texts.{dollars_text};
-ghost use Rattle.columns.specs.Columns.{spaces, left_text, right_text, number_text, amount_text, dash_text, cents_text, percent_text, rate_text, line_text};
+ghost use Rattle.columns.specs.Columns.{left_text, right_text, number_text, amount_text, dash_text, cents_text, percent_text, rate_text, line_text};
 
 use amounts::{Cents, Rate};
 use money::Dollars;
 use std::alloc::{AllocError, Global};
-
-// So many spaces.
-#[tactic(auto, unfolding(crate::specs::Columns::spaces))]
-fn spaces(heap: Global, count: usize) -> Result<String, AllocError>
-    ensures { IfOk result (λ t. string_bytes t ≡ spaces count) }
-{
-    " ".repeat(heap, count)
-}
+use wording::shown::spaces;
 
 // A text at the left of so many columns.
 #[tactic(auto, unfolding(crate::specs::Columns::left_text))]
@@ -49,8 +42,8 @@ pub fn number(heap: Global, width: usize, number: u64) -> Result<String, AllocEr
 pub fn amount(heap: Global, width: usize, value: Dollars) -> Result<String, AllocError>
     ensures { IfOk result (λ t. string_bytes t ≡ amount_text width (amount value)) }
 {
-    let text = value.text(heap)?;
-    right(heap, width, text.as_str())
+    let dollars = value.text(heap)?;
+    right(heap, width, dollars.as_str())
 }
 
 // A dash, where there is no such value.
@@ -61,7 +54,7 @@ pub fn dash(heap: Global, width: usize) -> Result<String, AllocError>
 }
 
 // Cents in dollars, where there are any.
-pub fn cents(heap: Global, width: usize, cents: Option<Cents>) -> Result<String, AllocError>
+pub(crate) fn cents(heap: Global, width: usize, cents: Option<Cents>) -> Result<String, AllocError>
     ensures { IfOk result (λ t. string_bytes t ≡ cents_text width (option_map cents_in cents)) }
 {
     match cents {
@@ -93,7 +86,7 @@ fn rate(heap: Global, rate: Option<Rate>) -> Result<String, AllocError>
 
 // A line with a label and a value.
 #[tactic(auto, unfolding(crate::specs::Columns::line_text))]
-pub fn line(heap: Global, label: &str, value: &str) -> Result<String, AllocError>
+pub(crate) fn line(heap: Global, label: &str, value: &str) -> Result<String, AllocError>
     ensures { IfOk result (λ t. string_bytes t ≡ line_text label.now value.now) }
 {
     let label = left(heap, 28, label)?;
@@ -102,7 +95,7 @@ pub fn line(heap: Global, label: &str, value: &str) -> Result<String, AllocError
 }
 
 // A line with a label and an amount.
-pub fn amount_line(heap: Global, label: &str, value: Dollars) -> Result<String, AllocError>
+pub(crate) fn amount_line(heap: Global, label: &str, value: Dollars) -> Result<String, AllocError>
     ensures { IfOk result (λ t. string_bytes t ≡ line_text label.now (dollars_text (amount value))) }
 {
     let text = value.text(heap)?;
@@ -110,7 +103,11 @@ pub fn amount_line(heap: Global, label: &str, value: Dollars) -> Result<String, 
 }
 
 // A line with a label and a rate, or none.
-pub fn rate_line(heap: Global, label: &str, value: Option<Rate>) -> Result<String, AllocError>
+pub(crate) fn rate_line(
+    heap: Global,
+    label: &str,
+    value: Option<Rate>,
+) -> Result<String, AllocError>
     ensures { IfOk result (λ t. string_bytes t ≡ line_text label.now (rate_text (points value))) }
 {
     let text = rate(heap, value)?;

@@ -22,7 +22,7 @@ fn like_claim(c: &Claim, x: &Claim) -> bool
 // A function for each list: what makes two positions alike and what makes two lines alike are different fields.
 
 // The place of the position like `r`, from 0.
-pub fn find_position(held: &[Record], r: &Record) -> Option<usize>
+pub(crate) fn find_position(held: &[Record], r: &Record) -> Option<usize>
     ensures value { result ≡ position_like held.now r.now }
     ensures bound { IfSome result (λ i. i < length held.now) }
 {
@@ -30,7 +30,7 @@ pub fn find_position(held: &[Record], r: &Record) -> Option<usize>
 }
 
 // The place of the line like `c`, from 0.
-pub fn find_line(claims: &[Claim], c: &Claim) -> Option<usize>
+pub(crate) fn find_line(claims: &[Claim], c: &Claim) -> Option<usize>
     ensures value { result ≡ line_like claims.now c.now }
     ensures bound { IfSome result (λ i. i < length claims.now) }
 {

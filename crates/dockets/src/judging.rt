@@ -20,14 +20,14 @@ fn up_to(most: u64, n: u64, refusal: Refusal) -> Result<(), Refusal>
 }
 
 // Refuses a number of sets outside 1 to 5,000.
-pub fn sets_ok(c: &Claim) -> Result<(), Refusal>
+pub(crate) fn sets_ok(c: &Claim) -> Result<(), Refusal>
     ensures { result ≡ sets_ok c.now }
 {
     up_to(5_000, c.sets, Refusal::SetsOutOfRange)
 }
 
 // Refuses an article that the book has not, and then a number of sets.
-pub fn article_ok(articles: u8, c: &Claim) -> Result<(), Refusal>
+pub(crate) fn article_ok(articles: u8, c: &Claim) -> Result<(), Refusal>
     ensures { result ≡ article_ok articles c.now }
 {
     up_to(u64::from(articles), c.article, Refusal::NoSuchArticle)?;
@@ -35,7 +35,7 @@ pub fn article_ok(articles: u8, c: &Claim) -> Result<(), Refusal>
 }
 
 // Refuses a number that no position has.
-pub fn position_ok(count: usize, leg: Leg, p: u64) -> Result<(), Refusal>
+pub(crate) fn position_ok(count: usize, leg: Leg, p: u64) -> Result<(), Refusal>
     ensures { result ≡ position_ok count leg p }
 {
     // A cast: a u64 is not made from a usize by From.
@@ -56,7 +56,7 @@ fn third_leg_ok(count: usize, legs: u8, third: u64) -> Result<(), Refusal>
 }
 
 // Refuses the first leg that is no position, and a third leg beside two.
-pub fn positions_ok(count: usize, legs: u8, c: &Claim) -> Result<(), Refusal>
+pub(crate) fn positions_ok(count: usize, legs: u8, c: &Claim) -> Result<(), Refusal>
     ensures value { result ≡ positions_ok count legs c.now }
     ensures whole { OnOk result (2 ≤ legs → legs ≤ 3 → length (legs_of c.now) ≡ legs) }
 {
@@ -66,7 +66,7 @@ pub fn positions_ok(count: usize, legs: u8, c: &Claim) -> Result<(), Refusal>
 }
 
 // Refuses a position that is a leg twice.
-pub fn apart_ok(c: &Claim) -> Result<(), Refusal>
+pub(crate) fn apart_ok(c: &Claim) -> Result<(), Refusal>
     ensures { result ≡ apart_ok c.now }
 {
     if c.second == c.first {
@@ -79,7 +79,7 @@ pub fn apart_ok(c: &Claim) -> Result<(), Refusal>
 }
 
 // Refuses what the book refuses. It asks what the book's own question asks, which article_ok and positions_ok have shown: a type that holds it would be made only to be taken apart here.
-pub fn book_ok<B: Book>(account: &Account<B>, c: &Claim) -> Result<(), Refusal>
+pub(crate) fn book_ok<B: Book>(account: &Account<B>, c: &Claim) -> Result<(), Refusal>
     requires has { Has (B.Book.tables account.now.book.now) c.now.article }
     requires whole { length (legs_of c.now) ≡ (B.Book.tables account.now.book.now).legs c.now.article }
     ensures { result ≡ book_ok (answer (B.Book.tables account.now.book.now) account.now.standing.size.units account.now.standing.held.now (set_of c.now)) }
@@ -100,7 +100,7 @@ fn leg_covered(standing: &Standing, c: &Claim, leg: Leg, p: u64) -> Result<(), R
 }
 
 // Refuses the first leg of which too little is free.
-pub fn covered_ok(standing: &Standing, c: &Claim) -> Result<(), Refusal>
+pub(crate) fn covered_ok(standing: &Standing, c: &Claim) -> Result<(), Refusal>
     ensures { result ≡ covered_ok standing.now.size.units (record { held = standing.now.held.now; claims = standing.now.claims.now }) c.now }
 {
     leg_covered(standing, c, Leg::First, c.first)?;
@@ -112,7 +112,7 @@ pub fn covered_ok(standing: &Standing, c: &Claim) -> Result<(), Refusal>
 }
 
 // The sets then in a line.
-pub fn sets_added(line: &Claim, c: &Claim) -> Result<u64, Refusal>
+pub(crate) fn sets_added(line: &Claim, c: &Claim) -> Result<u64, Refusal>
     ensures { result ≡ sets_added line.now c.now }
 {
     let sets = line.sets.checked_add(c.sets);
@@ -120,7 +120,7 @@ pub fn sets_added(line: &Claim, c: &Claim) -> Result<u64, Refusal>
 }
 
 // The sets left in a line.
-pub fn sets_left(line: &Claim, c: &Claim) -> Result<u64, Refusal>
+pub(crate) fn sets_left(line: &Claim, c: &Claim) -> Result<u64, Refusal>
     ensures { result ≡ sets_left line.now c.now }
 {
     line.sets

@@ -8,7 +8,7 @@ ghost use Rattle.examples.specs.Examples.{sample_size, sample, Priced};
 use amounts::{Cents, ContractSize, Rate};
 use market::ShareSheet;
 
-// Contracts of 100 units: with these, each row of the table of examples comes to its parts on the sample sheet.
+// Contracts of 100 units: with these, each row of the table of examples comes to its parts on the sample sheet, or is refused as it says.
 pub fn sample_size() -> ContractSize
     ensures size { result.units ≡ sample_size }
     ensures priced { Priced }

@@ -1,5 +1,5 @@
 -- Lines of a key and one field, and the head of a file.
-use Rattle.std.proofs.Common.{◌≡◌, ℕ, ◌+◌, ◌≤◌, Bool, true, false, cond, leb, List, [], ◌∷◌, ◌++◌, length, take, drop, Some, None, Ok, Err, codes, Option, Result, sym, refl, ap, ◌∙◌, subst, arith}
+use Rattle.std.proofs.Common.{◌≡◌, ℕ, ◌+◌, ◌≤◌, Bool, true, false, cond, ◌&&◌, leb, List, [], ◌∷◌, ◌++◌, length, take, drop, Some, None, Ok, Err, codes, Option, Result, sym, refl, ap, ◌∙◌, subst, arith}
 use Rattle.std.specs.List.{join_with_byte}
 use Rattle.std.specs.Result.{result_map_both}
 use Rattle.std.specs.Str.{bytes_eq}
@@ -120,17 +120,13 @@ market_line market = line (codes "market=") (market_text market ∷ [])
 
 shares_judged : (n : ℕ) (s : Shares) (m : ℕ) (f : List ℕ) (fs : List (List ℕ)) (g : Got Rates) → judged share n (sheet_of s) m (f ∷ fs) ≡ Ok g → SheetRead (sheet_lines (share s) ++ (f ∷ fs)) g
 shares_judged n s m f fs g e =
-    let a = passed share n (price_in_range s.price) _ OutOfRange m (f ∷ fs) g e in
-    let b = passed share n (rate_in_range s.floor) _ OutOfRange m (f ∷ fs) g a in
-    let c = passed share n (none_or_in_range s.futures) _ OutOfRange m (f ∷ fs) g b in
-    let d = passed share n (none_or_in_range s.tracking) (Ok s) OutOfRange m (f ∷ fs) g c in
-    subst (SheetRead (sheet_lines (share s) ++ (f ∷ fs))) (judged_read share n s m (f ∷ fs) g d) (record { first = f; others = fs; left_is = refl; is = refl })
+    let made = passed share n (price_in_range s.price && (rate_in_range s.floor && (none_or_in_range s.futures && none_or_in_range s.tracking))) (Ok s) OutOfRange m (f ∷ fs) g e in
+    subst (SheetRead (sheet_lines (share s) ++ (f ∷ fs))) (judged_read share n s m (f ∷ fs) g made) (record { first = f; others = fs; left_is = refl; is = refl })
 
 currency_judged : (n : ℕ) (c : Currency) (m : ℕ) (f : List ℕ) (fs : List (List ℕ)) (g : Got Rates) → judged currency n (currency_of c) m (f ∷ fs) ≡ Ok g → SheetRead (sheet_lines (currency c) ++ (f ∷ fs)) g
 currency_judged n c m f fs g e =
-    let a = passed currency n (price_in_range c.price) _ OutOfRange m (f ∷ fs) g e in
-    let b = passed currency n (rate_in_range c.spot) (Ok c) OutOfRange m (f ∷ fs) g a in
-    subst (SheetRead (sheet_lines (currency c) ++ (f ∷ fs))) (judged_read currency n c m (f ∷ fs) g b) (record { first = f; others = fs; left_is = refl; is = refl })
+    let made = passed currency n (price_in_range c.price && rate_in_range c.spot) (Ok c) OutOfRange m (f ∷ fs) g e in
+    subst (SheetRead (sheet_lines (currency c) ++ (f ∷ fs))) (judged_read currency n c m (f ∷ fs) g made) (record { first = f; others = fs; left_is = refl; is = refl })
 
 named_read : (market : MarketName) (n : ℕ) (fs : List (List ℕ)) (g : Got Rates) → sheet_named market n fs ≡ Ok g → SheetRead (market_line market ∷ fs) g
 named_read name.Share n fs g h =
@@ -229,17 +225,16 @@ good_rates (sheet.Share s) = record {
   futures = rate_small s.futures;
   tracking = rate_small s.tracking;
   accepted =
-      cond-true (price_in_range s.price.amount) _ _ (in_range_lem 1 500000 s.price.amount s.some s.price.high)
-      ∙ cond-true (rate_in_range s.floor.basis_points) _ _ (in_range_lem 0 10000 s.floor.basis_points (omega arith) s.floor.high)
-      ∙ cond-true (none_or_in_range (points s.futures)) _ _ (rate_in_range_lem s.futures)
-      ∙ cond-true (none_or_in_range (points s.tracking)) _ _ (rate_in_range_lem s.tracking);
+      let rates = and_from (none_or_in_range (points s.futures)) (none_or_in_range (points s.tracking)) (rate_in_range_lem s.futures) (rate_in_range_lem s.tracking) in
+      let floor = and_from (rate_in_range s.floor.basis_points) _ (in_range_lem 0 10000 s.floor.basis_points (omega arith) s.floor.high) rates in
+      cond-true _ _ _ (and_from (price_in_range s.price.amount) _ (in_range_lem 1 500000 s.price.amount s.some s.price.high) floor);
 }
 good_rates (sheet.Currency c) = record {
   price = omega (arith, c.price.high);
   spot = omega (arith, c.spot.high);
   accepted =
-      cond-true (price_in_range c.price.amount) _ _ (in_range_lem 1 500000 c.price.amount c.some c.price.high)
-      ∙ cond-true (rate_in_range c.spot.basis_points) _ _ (in_range_lem 0 10000 c.spot.basis_points (omega arith) c.spot.high);
+      let spot = in_range_lem 0 10000 c.spot.basis_points (omega arith) c.spot.high in
+      cond-true _ _ _ (and_from (price_in_range c.price.amount) _ (in_range_lem 1 500000 c.price.amount c.some c.price.high) spot);
 }
 
 sheet_given : (r : Rates) → GoodRates r → (n : ℕ) (f : List ℕ) (fs : List (List ℕ)) → (m : ℕ) × (sheet_at n (sheet_lines r ++ (f ∷ fs)) ≡ Ok (record { value = r; place = m; left = f ∷ fs }))

@@ -8,7 +8,7 @@ use pricing::Contract;
 use std::alloc::{AllocError, Global};
 
 // Part: the floor rate of 1.25.
-pub fn part<M: Market>(heap: Global, market: &M) -> Result<String, AllocError>
+pub(crate) fn part<M: Market>(heap: Global, market: &M) -> Result<String, AllocError>
     ensures { IfOk result (λ t. string_bytes t ≡ part_text (M.Market.quote market.now)) }
 {
     let rate = market.floor_rate().basis_points;
@@ -20,7 +20,10 @@ pub fn part<M: Market>(heap: Global, market: &M) -> Result<String, AllocError>
 }
 
 // Requirement: a short call alone.
-pub fn requirement<M: Market>(heap: Global, contract: &Contract<M>) -> Result<String, AllocError>
+pub(crate) fn requirement<M: Market>(
+    heap: Global,
+    contract: &Contract<M>,
+) -> Result<String, AllocError>
     ensures { IfOk result (λ t. string_bytes t ≡ requirement_text contract.now.quote contract.now.size) }
 {
     let size = contract.size.units;
@@ -30,7 +33,7 @@ pub fn requirement<M: Market>(heap: Global, contract: &Contract<M>) -> Result<St
 }
 
 // Long requirement: a unit held long.
-pub fn long_requirement<M: Market>(heap: Global, market: &M) -> Result<String, AllocError>
+pub(crate) fn long_requirement<M: Market>(heap: Global, market: &M) -> Result<String, AllocError>
     ensures { IfOk result (λ t. string_bytes t ≡ long_requirement_text (M.Market.quote market.now)) }
 {
     let price = Price(market.price());
@@ -39,7 +42,7 @@ pub fn long_requirement<M: Market>(heap: Global, market: &M) -> Result<String, A
 }
 
 // Short requirement: a unit held short.
-pub fn short_requirement<M: Market>(heap: Global, market: &M) -> Result<String, AllocError>
+pub(crate) fn short_requirement<M: Market>(heap: Global, market: &M) -> Result<String, AllocError>
     ensures { IfOk result (λ t. string_bytes t ≡ short_requirement_text (M.Market.quote market.now)) }
 {
     let price = Price(market.price());
@@ -48,7 +51,7 @@ pub fn short_requirement<M: Market>(heap: Global, market: &M) -> Result<String, 
 }
 
 // Futures: a contract alone.
-pub fn futures<M: Market>(heap: Global, contract: &Contract<M>) -> Result<String, AllocError>
+pub(crate) fn futures<M: Market>(heap: Global, contract: &Contract<M>) -> Result<String, AllocError>
     ensures { IfOk result (λ t. string_bytes t ≡ futures_text contract.now.quote contract.now.size) }
 {
     let size = contract.size.units;
@@ -57,7 +60,10 @@ pub fn futures<M: Market>(heap: Global, contract: &Contract<M>) -> Result<String
 }
 
 // Escrow receipt: one alone.
-pub fn escrow_receipt<M: Market>(heap: Global, contract: &Contract<M>) -> Result<String, AllocError>
+pub(crate) fn escrow_receipt<M: Market>(
+    heap: Global,
+    contract: &Contract<M>,
+) -> Result<String, AllocError>
     ensures { IfOk result (λ t. string_bytes t ≡ escrow_receipt_text contract.now.quote contract.now.size) }
 {
     let amount = Parts(worked::escrow_receipt(contract));

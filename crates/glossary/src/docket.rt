@@ -19,7 +19,7 @@ fn marked(position: u64) -> Dollars
 }
 
 // Free units: of each position.
-pub fn free_units(heap: Global) -> Result<String, AllocError>
+pub(crate) fn free_units(heap: Global) -> Result<String, AllocError>
     ensures { IfOk result (λ t. string_bytes t ≡ free_units_text) }
 {
     let units = worked::free_units(1);
@@ -31,7 +31,7 @@ pub fn free_units(heap: Global) -> Result<String, AllocError>
 }
 
 // Total: with its claims.
-pub fn total(heap: Global) -> Result<String, AllocError>
+pub(crate) fn total(heap: Global) -> Result<String, AllocError>
     ensures { IfOk result (λ t. string_bytes t ≡ total_text) }
 {
     let total = Dollars::from(worked::total());
@@ -39,7 +39,7 @@ pub fn total(heap: Global) -> Result<String, AllocError>
 }
 
 // Mark: of each position.
-pub fn mark(heap: Global) -> Result<String, AllocError>
+pub(crate) fn mark(heap: Global) -> Result<String, AllocError>
     ensures { IfOk result (λ t. string_bytes t ≡ mark_text) }
 {
     let unit = marked(1);
@@ -51,7 +51,7 @@ pub fn mark(heap: Global) -> Result<String, AllocError>
 }
 
 // Fair: the marks, and those with 0 for the put.
-pub fn fair(heap: Global) -> Result<String, AllocError>
+pub(crate) fn fair(heap: Global) -> Result<String, AllocError>
     ensures text { IfOk result (λ t. string_bytes t ≡ fair_text) }
     ensures fair { Fair tables sample_size tally.held marks }
 {
@@ -63,7 +63,7 @@ pub fn fair(heap: Global) -> Result<String, AllocError>
 }
 
 // Floor: of the marks.
-pub fn floor(heap: Global) -> Result<String, AllocError>
+pub(crate) fn floor(heap: Global) -> Result<String, AllocError>
     ensures { IfOk result (λ t. string_bytes t ≡ floor_text) }
 {
     let unit = marked(1);
@@ -74,16 +74,16 @@ pub fn floor(heap: Global) -> Result<String, AllocError>
 }
 
 // Lawful pairing: that of the claims.
-pub fn lawful_pairing(heap: Global) -> Result<String, AllocError>
+pub(crate) fn lawful_pairing(heap: Global) -> Result<String, AllocError>
     ensures text { IfOk result (λ t. string_bytes t ≡ lawful_pairing_text) }
     ensures lawful { LawfulPairing tables sample_size tally.held (pairing_of tally.claims) }
 {
-    let cost = Dollars::from(worked::pairing_cost());
+    let cost = Dollars::from(worked::total());
     format!(in heap; "The two protective puts of the sample docket are one. It costs {cost}.")
 }
 
 // Least: what the floor says of the total. No lawful pairing costs less than that.
-pub fn least(heap: Global) -> Result<String, AllocError>
+pub(crate) fn least(heap: Global) -> Result<String, AllocError>
     ensures text { IfOk result (λ t. string_bytes t ≡ least_text) }
     ensures least { (xs : List Set) → LawfulPairing tables sample_size tally.held xs → total tables sample_size tally.held tally.claims ≤ cost tables sample_size tally.held xs }
 {

@@ -9,7 +9,7 @@ use pricing::Contract;
 use std::alloc::{AllocError, Global};
 
 // In the money: a call and a put.
-pub fn in_the_money<M: Market>(heap: Global, market: &M) -> Result<String, AllocError>
+pub(crate) fn in_the_money<M: Market>(heap: Global, market: &M) -> Result<String, AllocError>
     ensures { IfOk result (λ t. string_bytes t ≡ in_the_money_text (M.Market.quote market.now)) }
 {
     let price = Price(market.price());
@@ -19,7 +19,7 @@ pub fn in_the_money<M: Market>(heap: Global, market: &M) -> Result<String, Alloc
 }
 
 // Out of the money: a call and a put.
-pub fn out_of_the_money<M: Market>(heap: Global, market: &M) -> Result<String, AllocError>
+pub(crate) fn out_of_the_money<M: Market>(heap: Global, market: &M) -> Result<String, AllocError>
     ensures { IfOk result (λ t. string_bytes t ≡ out_of_the_money_text (M.Market.quote market.now)) }
 {
     let price = Price(market.price());
@@ -29,7 +29,7 @@ pub fn out_of_the_money<M: Market>(heap: Global, market: &M) -> Result<String, A
 }
 
 // Time value: of a call.
-pub fn time_value<M: Market>(heap: Global, market: &M) -> Result<String, AllocError>
+pub(crate) fn time_value<M: Market>(heap: Global, market: &M) -> Result<String, AllocError>
     ensures { IfOk result (λ t. string_bytes t ≡ time_value_text (M.Market.quote market.now)) }
 {
     let price = Price(market.price());
@@ -38,7 +38,7 @@ pub fn time_value<M: Market>(heap: Global, market: &M) -> Result<String, AllocEr
 }
 
 // Counted time value: of that call, on either side of 270 days.
-pub fn counted_time_value<M: Market>(heap: Global, market: &M) -> Result<String, AllocError>
+pub(crate) fn counted_time_value<M: Market>(heap: Global, market: &M) -> Result<String, AllocError>
     ensures { IfOk result (λ t. string_bytes t ≡ counted_time_value_text (M.Market.quote market.now)) }
 {
     let whole = Parts(worked::counted_whole(market));
@@ -47,7 +47,10 @@ pub fn counted_time_value<M: Market>(heap: Global, market: &M) -> Result<String,
 }
 
 // Long option: that call, held long, on either side of 270 days.
-pub fn long_option<M: Market>(heap: Global, contract: &Contract<M>) -> Result<String, AllocError>
+pub(crate) fn long_option<M: Market>(
+    heap: Global,
+    contract: &Contract<M>,
+) -> Result<String, AllocError>
     ensures { IfOk result (λ t. string_bytes t ≡ long_option_text contract.now.quote contract.now.size) }
 {
     let size = contract.size.units;
@@ -59,7 +62,10 @@ pub fn long_option<M: Market>(heap: Global, contract: &Contract<M>) -> Result<St
 }
 
 // Short option: a call whose first amount is the greater, and one whose floor amount is.
-pub fn short_option<M: Market>(heap: Global, contract: &Contract<M>) -> Result<String, AllocError>
+pub(crate) fn short_option<M: Market>(
+    heap: Global,
+    contract: &Contract<M>,
+) -> Result<String, AllocError>
     ensures { IfOk result (λ t. string_bytes t ≡ short_option_text contract.now.quote contract.now.size) }
 {
     let near = Parts(worked::short_option(contract));
@@ -70,7 +76,10 @@ pub fn short_option<M: Market>(heap: Global, contract: &Contract<M>) -> Result<S
 }
 
 // Floor amount: of the second of these, beside its first amount.
-pub fn floor_amount<M: Market>(heap: Global, contract: &Contract<M>) -> Result<String, AllocError>
+pub(crate) fn floor_amount<M: Market>(
+    heap: Global,
+    contract: &Contract<M>,
+) -> Result<String, AllocError>
     ensures { IfOk result (λ t. string_bytes t ≡ floor_amount_text contract.now.quote contract.now.size) }
 {
     let floor = Parts(worked::floor_amount(contract));

@@ -59,7 +59,7 @@ fn entry<M: Market>(heap: Global, contract: &Contract<M>, term: Term) -> Result<
 }
 
 // All terms, on the sample sheet. Its figures are these numbers, by the definitions that the rules are priced by.
-pub fn screen(heap: Global) -> Result<String, AllocError>
+pub(crate) fn screen(heap: Global) -> Result<String, AllocError>
     ensures text { IfOk result (λ t. string_bytes t ≡ screen_text (share_quote sample) sample_size) }
     ensures figures { Figures }
 {

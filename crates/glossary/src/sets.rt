@@ -11,7 +11,7 @@ use pricing::Contract;
 use std::alloc::{AllocError, Global};
 
 // Set: what it takes of a put and of units.
-pub fn set(heap: Global, size: ContractSize) -> Result<String, AllocError>
+pub(crate) fn set(heap: Global, size: ContractSize) -> Result<String, AllocError>
     ensures { IfOk result (λ t. string_bytes t ≡ set_text size.units) }
 {
     let puts = set_takes(size, Kind::Put);
@@ -20,7 +20,7 @@ pub fn set(heap: Global, size: ContractSize) -> Result<String, AllocError>
 }
 
 // Spread: of calls.
-pub fn spread<M: Market>(heap: Global, contract: &Contract<M>) -> Result<String, AllocError>
+pub(crate) fn spread<M: Market>(heap: Global, contract: &Contract<M>) -> Result<String, AllocError>
     ensures { IfOk result (λ t. string_bytes t ≡ spread_text contract.now.quote contract.now.size) }
 {
     let amount = Required(worked::spread(contract));
@@ -30,7 +30,10 @@ pub fn spread<M: Market>(heap: Global, contract: &Contract<M>) -> Result<String,
 }
 
 // Straddle: a call and a put.
-pub fn straddle<M: Market>(heap: Global, contract: &Contract<M>) -> Result<String, AllocError>
+pub(crate) fn straddle<M: Market>(
+    heap: Global,
+    contract: &Contract<M>,
+) -> Result<String, AllocError>
     ensures { IfOk result (λ t. string_bytes t ≡ straddle_text contract.now.quote contract.now.size) }
 {
     let amount = Required(worked::straddle(contract));
@@ -40,7 +43,10 @@ pub fn straddle<M: Market>(heap: Global, contract: &Contract<M>) -> Result<Strin
 }
 
 // Protective put: a put and units.
-pub fn protective_put<M: Market>(heap: Global, contract: &Contract<M>) -> Result<String, AllocError>
+pub(crate) fn protective_put<M: Market>(
+    heap: Global,
+    contract: &Contract<M>,
+) -> Result<String, AllocError>
     ensures { IfOk result (λ t. string_bytes t ≡ protective_put_text contract.now.quote contract.now.size) }
 {
     let size = contract.size.units;
@@ -50,7 +56,10 @@ pub fn protective_put<M: Market>(heap: Global, contract: &Contract<M>) -> Result
 }
 
 // Conversion: a put, a call and futures.
-pub fn conversion<M: Market>(heap: Global, contract: &Contract<M>) -> Result<String, AllocError>
+pub(crate) fn conversion<M: Market>(
+    heap: Global,
+    contract: &Contract<M>,
+) -> Result<String, AllocError>
     ensures { IfOk result (λ t. string_bytes t ≡ conversion_text contract.now.quote contract.now.size) }
 {
     let amount = Required(worked::conversion(contract));
@@ -60,7 +69,10 @@ pub fn conversion<M: Market>(heap: Global, contract: &Contract<M>) -> Result<Str
 }
 
 // Reconversion: a put, a call and futures, each on the other side.
-pub fn reconversion<M: Market>(heap: Global, contract: &Contract<M>) -> Result<String, AllocError>
+pub(crate) fn reconversion<M: Market>(
+    heap: Global,
+    contract: &Contract<M>,
+) -> Result<String, AllocError>
     ensures { IfOk result (λ t. string_bytes t ≡ reconversion_text contract.now.quote contract.now.size) }
 {
     let amount = Required(worked::reconversion(contract));
@@ -70,7 +82,7 @@ pub fn reconversion<M: Market>(heap: Global, contract: &Contract<M>) -> Result<S
 }
 
 // Call on an escrow receipt: a call and a receipt.
-pub fn receipt_call(heap: Global) -> Result<String, AllocError>
+pub(crate) fn receipt_call(heap: Global) -> Result<String, AllocError>
     ensures { IfOk result (λ t. string_bytes t ≡ receipt_call_text) }
 {
     let amount = Required(worked::receipt_call());

@@ -35,7 +35,7 @@ pub enum Term {
 
 impl Term {
     // All terms, in the order of the rules.
-    pub fn all() -> [Term; 27]
+    pub(crate) fn all() -> [Term; 27]
         ensures { result ≡ terms }
     {
         [
@@ -70,7 +70,7 @@ impl Term {
     }
 
     // The term itself.
-    pub fn name(self) -> &'static str
+    pub(crate) fn name(self) -> &'static str
         ensures { result.now ≡ name_text self }
     {
         match self {
@@ -105,7 +105,7 @@ impl Term {
     }
 
     // Its sentence, in lines of at most 96 characters.
-    pub fn sentence(self) -> &'static str
+    pub(crate) fn sentence(self) -> &'static str
         ensures { result.now ≡ sentence_text self }
     {
         match self {

@@ -1,5 +1,5 @@
 -- The currency sheet.
-use Rattle.std.specs.Prelude.{ℕ, ◌+◌, ◌*◌, cond, None, Ok, Err, Result}
+use Rattle.std.specs.Prelude.{ℕ, ◌+◌, ◌*◌, cond, ◌&&◌, None, Ok, Err, Result}
 use Rattle.market.specs.declared.SheetFault.{SheetFault}
 use Rattle.market.specs.declared.SheetFault.TheVariants.{OutOfRange}
 use Rattle.market.specs.declared.currency_sheet.CurrencySheet.{CurrencySheet}
@@ -17,11 +17,7 @@ currency_on c = record { price = c.price.amount; spot = c.spot.basis_points }
 -- a sheet is made of values in range, and of no other
 abbrev pub currency_of : Currency → Result Currency SheetFault
 currency_of c =
-    cond (price_in_range c.price)
-    (cond (rate_in_range c.spot)
-    (Ok c)
-    (Err OutOfRange))
-    (Err OutOfRange)
+    cond (price_in_range c.price && rate_in_range c.spot) (Ok c) (Err OutOfRange)
 
 -- the market that a currency sheet tells of: long and option rates are the spot rate, short is the price and the spot rate of it,
 -- the floor rate is 75, and there is no futures rate and no tracking rate

@@ -1,5 +1,5 @@
 -- The share sheet.
-use Rattle.std.specs.Prelude.{ℕ, ◌+◌, ◌*◌, Bool, cond, Ok, Err, Option, Result, nat_le}
+use Rattle.std.specs.Prelude.{ℕ, ◌+◌, ◌*◌, Bool, cond, ◌&&◌, Ok, Err, Option, Result, nat_le}
 use Rattle.amounts.specs.Rates.{points}
 use Rattle.market.specs.declared.SheetFault.{SheetFault}
 use Rattle.market.specs.declared.SheetFault.TheVariants.{OutOfRange}
@@ -34,15 +34,7 @@ shares_on s = record { price = s.price.amount; reduced = s.reduced; floor = s.fl
 -- a sheet is made of values in range, and of no other
 abbrev pub sheet_of : Shares → Result Shares SheetFault
 sheet_of s =
-    cond (price_in_range s.price)
-    (cond (rate_in_range s.floor)
-    (cond (none_or_in_range s.futures)
-    (cond (none_or_in_range s.tracking)
-    (Ok s)
-    (Err OutOfRange))
-    (Err OutOfRange))
-    (Err OutOfRange))
-    (Err OutOfRange)
+    cond (price_in_range s.price && (rate_in_range s.floor && (none_or_in_range s.futures && none_or_in_range s.tracking))) (Ok s) (Err OutOfRange)
 
 -- the market that a share sheet tells of: the option rate is the long percentage
 abbrev pub share_quote : Shares → Quote

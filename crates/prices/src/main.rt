@@ -84,7 +84,7 @@ fn print_positions(rt: &HostRuntime, book: &Sheet) -> anyhow::Result<()> {
 }
 
 fn print_sets(rt: &HostRuntime, book: &Sheet) -> anyhow::Result<()> {
-    let sets: [(u8, &str, &[Entry]); 5] = [
+    let sets: [(u8, &str, &[Entry]); 9] = [
         (
             1,
             "long C 5500 at 120, short C 5000 at 300",
@@ -122,6 +122,40 @@ fn print_sets(rt: &HostRuntime, book: &Sheet) -> anyhow::Result<()> {
                 one('S', 'P', 5_000, 100, 180),
                 one('L', 'C', 5_100, 100, 140),
                 one('S', 'F', 0, 100, 5_060),
+            ],
+        ),
+        (
+            1,
+            "long C 5500 with 100 days, short C 5000 with 101",
+            &[
+                one('L', 'C', 5_500, 100, 120),
+                one('S', 'C', 5_000, 101, 300),
+            ],
+        ),
+        (
+            3,
+            "short C 5500, long P 5200",
+            &[
+                one('S', 'C', 5_500, 100, 120),
+                one('L', 'P', 5_200, 100, 350),
+            ],
+        ),
+        (
+            5,
+            "long P 5000, long C 5100, long F 5060",
+            &[
+                one('L', 'P', 5_000, 100, 180),
+                one('L', 'C', 5_100, 100, 140),
+                one('L', 'F', 0, 100, 5_060),
+            ],
+        ),
+        (
+            6,
+            "short P 5000 and long C 5100 with 100 days, short F 5060 with 99",
+            &[
+                one('S', 'P', 5_000, 100, 180),
+                one('L', 'C', 5_100, 100, 140),
+                one('S', 'F', 0, 99, 5_060),
             ],
         ),
     ];

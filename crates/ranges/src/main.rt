@@ -122,7 +122,22 @@ fn print_sheets(rt: &HostRuntime) -> anyhow::Result<()> {
     Ok(())
 }
 
+// An entry as text: its six fields in their order.
+fn print_entry(rt: &HostRuntime) -> anyhow::Result<()> {
+    let entry = Entry {
+        side: 'S',
+        kind: 'C',
+        strike: 5_500,
+        days: 100,
+        price: 120,
+        quantity: 7,
+    };
+    println!(rt; "entry {entry}")?;
+    Ok(())
+}
+
 fn main(rt: HostRuntime) -> anyhow::Result<()> {
+    print_entry(&rt)?;
     for value in [0, 1, 1_000, 1_001] {
         print!(rt; "size {value}:")?;
         print_made(&rt, ContractSize::new(value).ok_or("none"))?;

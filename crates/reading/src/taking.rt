@@ -53,7 +53,7 @@ impl Gathered {
 
     // One line, by its key: tests of the prefix in turn, since each key has its own value.
     #[tactic(auto, unfolding(crate::specs::Body::line_taken))]
-    pub fn take_line(&mut self, line: &[u8]) -> Result<(), LineFault>
+    pub(crate) fn take_line(&mut self, line: &[u8]) -> Result<(), LineFault>
         ensures kept { self.new.docket ≡ record self.old.docket { tally = self.new.docket.tally } }
         ensures body { leaving result (body_in self.new) ≡ line_taken (sheet_tables self.old.docket.book) self.old.docket.size.units (body_in self.old) line.now }
     {

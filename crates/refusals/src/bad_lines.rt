@@ -51,7 +51,7 @@ fn head_words(heap: Global, number: usize, kind: Option<LineKind>) -> Result<Str
 }
 
 // What is due on a line, in words.
-pub fn due(
+pub(crate) fn due(
     heap: Global,
     file: &[u8],
     number: usize,
@@ -207,7 +207,7 @@ impl BadLine<'_> {
     }
 
     // A bad line by its cause.
-    pub fn words(&self, heap: Global, cause: LineCause) -> Result<Words, AllocError>
+    pub(crate) fn words(&self, heap: Global, cause: LineCause) -> Result<Words, AllocError>
         ensures { IfOk result (λ w. said w ≡ bad_words self.now.file.now self.now.number self.now.line.now self.now.place self.now.due.now cause) }
     {
         match cause {

@@ -74,7 +74,7 @@ fn beyond_limit(heap: Global, position: usize) -> Result<Words, AllocError>
 }
 
 // A refused call by its refusal. A file makes no call of release and none of certify on a line.
-pub fn words(
+pub(crate) fn words(
     heap: Global,
     before: &Contents,
     line: &[u8],

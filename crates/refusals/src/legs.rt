@@ -19,7 +19,7 @@ use wording::fields::place_of;
 use wording::names::{article_name, article_of, kind_name, ordinal, side_name};
 
 // The claim that a line sends.
-pub fn claim_on(line: &[u8]) -> Claim
+pub(crate) fn claim_on(line: &[u8]) -> Claim
     ensures { result ≡ claim_on line.now }
 {
     line.strip_prefix(b"claim=")
@@ -91,7 +91,7 @@ fn leg_right(
 }
 
 // A leg that is no position, or a third one beside two.
-pub fn no_position(
+pub(crate) fn no_position(
     heap: Global,
     before: &Contents,
     line: &[u8],
@@ -111,7 +111,7 @@ pub fn no_position(
 }
 
 // A position that is a leg twice.
-pub fn twice(heap: Global, line: &[u8], leg: Leg) -> Result<Words, AllocError>
+pub(crate) fn twice(heap: Global, line: &[u8], leg: Leg) -> Result<Words, AllocError>
     ensures { IfOk result (λ w. said w ≡ twice_words line.now leg) }
 {
     let position = position_of(&claim_on(line), leg);
@@ -177,7 +177,7 @@ fn short_of(
 }
 
 // A leg of which too little is free.
-pub fn short_of_units(
+pub(crate) fn short_of_units(
     heap: Global,
     before: &Contents,
     line: &[u8],
@@ -326,7 +326,7 @@ fn other_cause(heap: Global, line: &[u8], cause: u8) -> Result<Words, AllocError
 }
 
 // A set that the book refuses: by its cause, which the articles number, and the leg that it names.
-pub fn book_words(
+pub(crate) fn book_words(
     heap: Global,
     before: &Contents,
     line: &[u8],

@@ -150,7 +150,7 @@ fn kind_on(line: &[u8]) -> Kind
 }
 
 // A field of a position outside its range.
-pub fn words(
+pub(crate) fn words(
     heap: Global,
     size: ContractSize,
     line: &[u8],

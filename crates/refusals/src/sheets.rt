@@ -13,7 +13,7 @@ use wording::lines;
 const SIZE_PLACE: usize = 6;
 
 // A contract size outside its range.
-pub fn size_words(heap: Global) -> Result<Words, AllocError>
+pub(crate) fn size_words(heap: Global) -> Result<Words, AllocError>
     ensures { IfOk result (λ w. said w ≡ size_words) }
 {
     plain(
@@ -86,7 +86,7 @@ fn value_words(
 }
 
 // A value outside its range: a sheet is judged at its last line, and the first such value may stand on an earlier one.
-pub fn words(heap: Global, file: &[u8], last: usize) -> Result<Words, AllocError>
+pub(crate) fn words(heap: Global, file: &[u8], last: usize) -> Result<Words, AllocError>
     ensures { IfOk result (λ w. said w ≡ sheet_words file.now last) }
 {
     for number in 3..=last {

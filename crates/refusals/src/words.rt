@@ -12,7 +12,7 @@ pub struct Words {
 }
 
 // Words that name no number but those of the rules.
-pub fn plain(
+pub(crate) fn plain(
     heap: Global,
     place: Option<usize>,
     wrong: &str,

@@ -1,7 +1,10 @@
-// Answers every input that the three indexes list, as the programs clerk, statement and tariff do, and compares what is answered with the output stored beside it.
+// Answers every input that the three indexes list, as the programs clerk, statement and tariff do, and compares what is answered with the output stored beside it; and prints the text of each call.
 #![tactic(auto)]
 
 use answers::Answer;
+use pairing::Claim;
+use positions::Entry;
+use runs::Call;
 use sessions::session;
 use statements::statement;
 use std::alloc::{AllocError, Global};
@@ -51,8 +54,39 @@ fn compare(rt: &HostRuntime, program: Program, index: &str) -> anyhow::Result<()
     Ok(())
 }
 
+// Prints each of the six calls as text.
+fn print_calls(rt: &HostRuntime) -> anyhow::Result<()> {
+    let entry = Entry {
+        side: 'S',
+        kind: 'C',
+        strike: 5_500,
+        days: 100,
+        price: 120,
+        quantity: 7,
+    };
+    let claim = Claim {
+        article: 4,
+        first: 2,
+        second: 1,
+        third: 3,
+        sets: 5,
+    };
+    for call in [
+        Call::Enter(entry),
+        Call::Claim(claim),
+        Call::Release(claim),
+        Call::Free(6),
+        Call::Total,
+        Call::Certify(&[25, -21]),
+    ] {
+        println!(rt; "{call}")?;
+    }
+    Ok(())
+}
+
 fn main(rt: HostRuntime) -> anyhow::Result<()> {
     compare(&rt, Program::Clerk, "clerk")?;
     compare(&rt, Program::Statement, "statement")?;
-    compare(&rt, Program::Tariff, "tariff")
+    compare(&rt, Program::Tariff, "tariff")?;
+    print_calls(&rt)
 }

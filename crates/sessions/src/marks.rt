@@ -11,7 +11,7 @@ use text::fields::Fields;
 use text::numbers::integer_of;
 
 // Any number of marks, of which the first begins at a place of its line.
-pub fn marks_in(heap: Global, value: &[u8], place: usize) -> Result<Vec<i64>, CallFault>
+pub(crate) fn marks_in(heap: Global, value: &[u8], place: usize) -> Result<Vec<i64>, CallFault>
     requires { (1 ≤ place) × (place ≤ 100) }
     ensures { ReadAs (λ v. certify v.items) result (making certify (marks_at place (split 44 value.now))) }
 {

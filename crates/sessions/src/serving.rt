@@ -48,7 +48,7 @@ fn answer(
 
 impl<'a> Opened<'a> {
     // The length of the input is tested first.
-    pub fn new(input: &'a [u8]) -> Result<Opened<'a>, FileFault>
+    pub(crate) fn new(input: &'a [u8]) -> Result<Opened<'a>, FileFault>
         ensures head { result_map_both opening (λ e. e) result ≡ head_in input.now }
         ensures tally { IfOk result (λ o. o.docket.tally ≡ empty) }
     {
@@ -62,7 +62,7 @@ impl<'a> Opened<'a> {
     }
 
     // The text of the replies to all lines.
-    pub fn serve_lines(&mut self, heap: Global) -> Result<String, AllocError>
+    pub(crate) fn serve_lines(&mut self, heap: Global) -> Result<String, AllocError>
         ensures text { IfOk result (λ t. string_bytes t ≡ lines_text (sheet_tables self.old.docket.book) self.old.docket.size.units self.old.reader.line self.old.docket.tally (pieces self.old.reader)) }
         ensures after { OnOk result (self.new.docket ≡ record self.old.docket { tally = after_lines (sheet_tables self.old.docket.book) self.old.docket.size.units self.old.docket.tally (ended (pieces self.old.reader)) }) }
     {

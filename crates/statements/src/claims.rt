@@ -19,7 +19,7 @@ use workings::TermAmount;
 
 // The legs by the numbers of their positions.
 #[tactic(auto, unfolding(crate::specs::Claims::legs_text))]
-pub fn legs_text(heap: Global, claim: &Claim) -> Result<String, AllocError>
+pub(crate) fn legs_text(heap: Global, claim: &Claim) -> Result<String, AllocError>
     ensures { IfOk result (λ t. string_bytes t ≡ legs_text claim.now) }
 {
     if claim.third == 0 {
@@ -29,7 +29,7 @@ pub fn legs_text(heap: Global, claim: &Claim) -> Result<String, AllocError>
 }
 
 // The name of an article, or a dash.
-pub fn article_words(article: Option<Article>) -> &'static str
+pub(crate) fn article_words(article: Option<Article>) -> &'static str
     ensures { result.now ≡ article_words article }
 {
     match article {
@@ -156,7 +156,7 @@ fn table(heap: Global, docket: &Docket<Sheet>) -> Result<String, AllocError>
 }
 
 // The word none where no claim stands, else the two tables.
-pub fn section(heap: Global, docket: &Docket<Sheet>) -> Result<String, AllocError>
+pub(crate) fn section(heap: Global, docket: &Docket<Sheet>) -> Result<String, AllocError>
     ensures { IfOk result (λ t. string_bytes t ≡ claims_section (rules_on docket.now.book) docket.now.size.units docket.now.tally) }
 {
     if docket.claims().is_empty() {

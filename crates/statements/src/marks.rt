@@ -178,7 +178,7 @@ fn other_words(heap: Global, refusal: Refusal) -> Result<String, AllocError>
 }
 
 // Why the marks are refused. A file's answer names no other refusal here.
-pub fn refusal_words(
+pub(crate) fn refusal_words(
     heap: Global,
     docket: &Docket<Sheet>,
     marks: &[i64],

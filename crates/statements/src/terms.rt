@@ -21,7 +21,7 @@ fn difference_words(article: Article) -> &'static str
 }
 
 // A term of an article's rule.
-pub fn term_words(article: Article, term: Term) -> &'static str
+pub(crate) fn term_words(article: Article, term: Term) -> &'static str
     ensures { result.now ≡ term_words article term }
 {
     match term {

@@ -121,7 +121,7 @@ fn answer_words(
 
 // The heading, and what the docket and its marks are answered.
 #[tactic(auto, unfolding(crate::specs::Verdict::verdict_section))]
-pub fn section(
+pub(crate) fn section(
     heap: Global,
     docket: &Docket<Sheet>,
     marks: &[i64],

@@ -1,5 +1,6 @@
 -- A line as it is shown, with a mark under one of its bytes.
-use Rattle.std.specs.Prelude.{ℕ, ◌-◌, Bool, cond, ◌&&◌, List, [], ◌++◌, map, length, take, drop, replicate, Some, None, codes, Option, ◌==◌, nat_lt, nat_le, unwrap_or}
+use Rattle.std.specs.Prelude.{ℕ, ◌-◌, Bool, cond, ◌&&◌, List, [], ◌++◌, map, length, take, drop, Some, None, codes, Option, ◌==◌, nat_lt, nat_le, unwrap_or}
+use Rattle.std.specs.List.{repeat}
 
 -- a byte that is no printable ASCII is shown as ? (63)
 abbrev pub shown_byte : ℕ → ℕ
@@ -14,8 +15,8 @@ abbrev pub dots : Bool → List ℕ
 dots cut = cond cut (codes "...") []
 
 -- so many spaces
-abbrev pub spaces : ℕ → List ℕ
-spaces count = replicate count 32
+unfoldable pub spaces : ℕ → List ℕ
+spaces count = repeat count (codes " ")
 
 -- said of a line with nothing on it
 abbrev pub nothing : List ℕ → List ℕ
@@ -24,7 +25,7 @@ nothing line = cond (length line == 0) (codes "(there is nothing on this line)")
 -- the mark under the byte at a place, where so many bytes before are not shown
 abbrev pub mark_text : Option ℕ → ℕ → List ℕ
 mark_text None cut = []
-mark_text (Some place) cut = spaces 2 ++ spaces (cond (nat_lt 0 cut) 3 0) ++ spaces (place - 1 - cut) ++ codes "^\n"
+mark_text (Some place) cut = codes "  " ++ (spaces (cond (nat_lt 0 cut) 3 0) ++ (spaces (place - 1 - cut) ++ codes "^\n"))
 
 -- the bytes of a line from the first that is shown, at most 88 of them
 abbrev pub part_text : List ℕ → List ℕ

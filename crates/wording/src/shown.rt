@@ -43,13 +43,12 @@ fn nothing(line: &[u8]) -> &'static str
     }
 }
 
-fn spaces(out: &mut String, count: usize) -> Result<(), AllocError>
-    ensures { OnOk result (string_bytes out.new ≡ string_bytes out.old ++ spaces count) }
+// So many spaces.
+#[tactic(auto, unfolding(crate::specs::Shown::spaces))]
+pub fn spaces(heap: Global, count: usize) -> Result<String, AllocError>
+    ensures { IfOk result (λ t. string_bytes t ≡ spaces count) }
 {
-    for _ in 0..count {
-        out.push(' ')?;
-    }
-    Ok(())
+    " ".repeat(heap, count)
 }
 
 fn printed(out: &mut String, bytes: &[u8]) -> Result<(), AllocError>
@@ -62,17 +61,16 @@ fn printed(out: &mut String, bytes: &[u8]) -> Result<(), AllocError>
 }
 
 // The mark under the byte at a place, where so many bytes before are not shown.
-fn mark(out: &mut String, place: Option<usize>, hidden: usize) -> Result<(), AllocError>
-    ensures { OnOk result (string_bytes out.new ≡ string_bytes out.old ++ mark_text place hidden) }
+fn mark(heap: Global, place: Option<usize>, hidden: usize) -> Result<String, AllocError>
+    ensures { IfOk result (λ t. string_bytes t ≡ mark_text place hidden) }
 {
     let Some(place) = place else {
-        return Ok(());
+        return String::from_str(heap, "");
     };
     let cut = if hidden > 0 { 3 } else { 0 };
-    spaces(out, 2)?;
-    spaces(out, cut)?;
-    spaces(out, place.saturating_sub(1).saturating_sub(hidden))?;
-    out.push_str("^\n")
+    let points = spaces(heap, cut)?;
+    let before = spaces(heap, place.saturating_sub(1).saturating_sub(hidden))?;
+    format!(in heap; "  {points}{before}^\n")
 }
 
 // The bytes of a line from the first that is shown.
@@ -94,6 +92,7 @@ pub fn shown(heap: Global, line: &[u8], place: Option<usize>) -> Result<String, 
     part(&mut out, line.get(hidden..).unwrap_or(&[]))?;
     out.push_str(nothing(line))?;
     out.push_str("\n")?;
-    mark(&mut out, place, hidden)?;
+    let mark = mark(heap, place, hidden)?;
+    out.push_str(mark.as_str())?;
     Ok(out)
 }

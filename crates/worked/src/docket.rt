@@ -79,9 +79,11 @@ pub fn free_units(position: u64) -> u32
     }
 }
 
-// Total: of the sample docket.
+// Total: of the sample docket. Its claims are a lawful pairing, which costs that.
 pub fn total() -> u128
-    ensures { result ≡ total tables sample_size tally.held tally.claims }
+    ensures value { result ≡ total tables sample_size tally.held tally.claims }
+    ensures lawful { LawfulPairing tables sample_size tally.held (pairing_of tally.claims) }
+    ensures cost { result ≡ cost tables sample_size tally.held (pairing_of tally.claims) }
 {
     sample_docket().total()
 }
@@ -123,14 +125,6 @@ pub fn breach() -> Breach
         // The marks are refused as unfair.
         _ => unreachable!(),
     }
-}
-
-// Lawful pairing: that of the sample docket's claims, and its cost.
-pub fn pairing_cost() -> u128
-    ensures lawful { LawfulPairing tables sample_size tally.held (pairing_of tally.claims) }
-    ensures cost { result ≡ cost tables sample_size tally.held (pairing_of tally.claims) }
-{
-    total()
 }
 
 // Least: what the floor of the sample docket's marks says of its total.

@@ -12,9 +12,7 @@ mod options;
 mod sets;
 
 pub use alone::{escrow_receipt, futures, long_requirement, part, requirement, short_requirement};
-pub use docket::{
-    breach, certificate, free_units, mark, pairing_cost, sample_docket, total, verdict,
-};
+pub use docket::{breach, certificate, free_units, mark, sample_docket, total, verdict};
 pub use options::{
     before_floor, counted_half, counted_whole, floor_amount, in_the_money_call, in_the_money_put,
     long_option_half, long_option_whole, out_of_the_money_call, out_of_the_money_put, short_option,

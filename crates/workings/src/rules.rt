@@ -70,7 +70,7 @@ fn strikes_apart(a: Cents, b: Cents) -> Cents
 }
 
 // A spread.
-pub fn spread_term<M: Market>(
+pub(crate) fn spread_term<M: Market>(
     contract: &Contract<M>,
     right: Right,
     long: &Record,
@@ -86,7 +86,11 @@ pub fn spread_term<M: Market>(
 }
 
 // A straddle.
-pub fn straddle_term<M: Market>(contract: &Contract<M>, call: &Record, put: &Record) -> TermAmount
+pub(crate) fn straddle_term<M: Market>(
+    contract: &Contract<M>,
+    call: &Record,
+    put: &Record,
+) -> TermAmount
     ensures { result ≡ straddle_term contract.now.quote contract.now.size (terms call.now) (terms put.now) }
 {
     let of_call = of_short(Term::ShortCall, contract, Right::Call, call);
@@ -99,7 +103,7 @@ pub fn straddle_term<M: Market>(contract: &Contract<M>, call: &Record, put: &Rec
 }
 
 // A protective put.
-pub fn protective_put_term<M: Market>(contract: &Contract<M>, put: &Record) -> TermAmount
+pub(crate) fn protective_put_term<M: Market>(contract: &Contract<M>, put: &Record) -> TermAmount
     ensures { result ≡ protective_put_term contract.now.quote contract.now.size (terms put.now) }
 {
     let held = contract.market.long_requirement();
@@ -146,7 +150,7 @@ fn difference(size: ContractSize, up: UnitAmount, down: UnitAmount) -> TermAmoun
 }
 
 // A conversion.
-pub fn conversion_term<M: Market>(
+pub(crate) fn conversion_term<M: Market>(
     contract: &Contract<M>,
     put: &Record,
     call: &Record,
@@ -164,7 +168,7 @@ pub fn conversion_term<M: Market>(
 }
 
 // A reconversion.
-pub fn reconversion_term<M: Market>(
+pub(crate) fn reconversion_term<M: Market>(
     contract: &Contract<M>,
     put: &Record,
     call: &Record,

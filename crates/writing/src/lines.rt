@@ -7,7 +7,11 @@ use std::alloc::{AllocError, Global};
 use std::fmt;
 
 // A line for each item: the key, and then the item.
-pub fn lines<T: fmt::Display>(heap: Global, key: &str, items: &[T]) -> Result<String, AllocError>
+pub(crate) fn lines<T: fmt::Display>(
+    heap: Global,
+    key: &str,
+    items: &[T],
+) -> Result<String, AllocError>
     ensures { (text : T → List ℕ) → PrintsAs T.output text → IfOk result (λ t. string_bytes t ≡ flat_map (λ x. ended (key.now ++ text x)) items.now) }
 {
     let mut out = String::new(heap);

@@ -43,7 +43,7 @@ fn currency_lines(heap: Global, sheet: &CurrencySheet) -> Result<String, AllocEr
 }
 
 // The lines of either sheet.
-pub fn sheet_lines(heap: Global, sheet: &Sheet) -> Result<String, AllocError>
+pub(crate) fn sheet_lines(heap: Global, sheet: &Sheet) -> Result<String, AllocError>
     ensures { IfOk result (λ t. string_bytes t ≡ flat_map ended (sheet_lines (rates_on sheet.now))) }
 {
     match sheet {

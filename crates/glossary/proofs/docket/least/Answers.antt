@@ -5,7 +5,7 @@ use Rattle.worked.specs.Sample.{tables, tally}
 use Rattle.glossary.proofs.docket.least.Goals as goal
 
 pub returns-clause-text : goal.returns-clause-text
-returns-clause-text c = rw (c.from-whole.ensures, c.total.ensures, c.from-floor.ensures, c.certificate.ensures.shown.figure, c.verdict-verdict.ensures) at c.format.ensures.ok
+returns-clause-text c = rw (c.from-whole.ensures, c.total.ensures.value, c.from-floor.ensures, c.certificate.ensures.shown.figure, c.verdict-verdict.ensures) at c.format.ensures.ok
 
 pub returns-clause-least : goal.returns-clause-least
 returns-clause-least c = λ xs lawful.
