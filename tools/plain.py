@@ -8,7 +8,7 @@ for each of its .rt files, line for line: line N of OUT/src/C/f.rs is line N of 
 if not given). Clauses, ghost items and tactics are empty lines there. Then builds OUT/plain with rustc, runs the programs that
 have stored output in it, and says of each whether it prints what crates/PROGRAM/stdout has.
 """
-import os, pathlib, re, resource, shutil, subprocess, sys, time
+import pathlib, re, resource, shutil, subprocess, sys, time
 
 HERE = pathlib.Path(__file__).resolve().parent
 ROOT = HERE.parent
@@ -122,17 +122,17 @@ def write(out, root):
     (src / "main.rs").write_text("\n".join(main))
 
 
-def command(out, level="0"):
+def command(out):
     return ["rustc", "--edition", "2021", "--crate-name", "plain", "--crate-type", "bin", "src/main.rs", "-o", "plain",
-            "-C", f"opt-level={level}", "-C", "debuginfo=0", "-C", "debug-assertions=on", "-C", "overflow-checks=on", "-C", "panic=abort",
+            "-C", "opt-level=0", "-C", "debuginfo=0", "-C", "debug-assertions=on", "-C", "overflow-checks=on", "-C", "panic=abort",
             "-C", "incremental=incremental",
             # One that always overflows or is out of bounds is still a program, which panics.
             "-A", "warnings", "-A", "arithmetic_overflow", "-A", "unconditional_panic"]
 
 
-def build(out, level="0"):
+def build(out):
     """Builds OUT/plain: None, or what the compiler says."""
-    r = subprocess.run(command(out, level), cwd=out, stdout=subprocess.PIPE, stderr=subprocess.STDOUT, text=True, errors="replace")
+    r = subprocess.run(command(out), cwd=out, stdout=subprocess.PIPE, stderr=subprocess.STDOUT, text=True, errors="replace")
     return None if r.returncode == 0 else r.stdout
 
 
