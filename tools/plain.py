@@ -12,7 +12,7 @@ import pathlib, re, resource, shutil, subprocess, sys, time
 
 HERE = pathlib.Path(__file__).resolve().parent
 ROOT = HERE.parent
-PROGRAMS = ["prices", "ranges", "cases", "screens", "glossary"]
+PROGRAMS = ["prices", "ranges", "cases", "glossary"]
 # Each program that is run has a time, memory and output limit: one with a bug may loop, or fill memory or the disk.
 SECONDS, MEMORY, OUTPUT = 20, 2 << 30, 32 << 20
 

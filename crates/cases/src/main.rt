@@ -1,17 +1,77 @@
-// Answers every case that the index lists and compares what is answered with the output stored beside it;
-// and writes every docket that a case describes, into a buffer that just holds it and into one that does not.
+// Answers every input that the four indexes list, as the programs docket, clerk, statement and tariff do, and compares what is answered with the output stored beside it;
+// writes every docket that an input of docket describes, into a buffer that just holds it and into one that does not;
+// and prints the text of each call.
 #![tactic(auto)]
 
 use answers::{Answer, answer_to};
+use pairing::Claim;
+use positions::Entry;
 use reading::read;
+use runs::Call;
+use sessions::session;
+use statements::statement;
+use std::alloc::{AllocError, Global};
 use std::fs;
+use tariffs::tariff_of;
 use writing::write;
 
-// Whether a file is answered as it should be.
-fn answers(rt: &HostRuntime, file: &[u8], expected: &[u8]) -> anyhow::Result<bool> {
-    let answer = Answer(answer_to(file));
-    let text = format!(in rt.alloc(); "{answer}")?;
-    Ok(text.as_bytes() == expected)
+// A program by what it prints for its input.
+#[derive(Clone, Copy)]
+enum Program {
+    Docket,
+    Clerk,
+    Statement,
+    Tariff,
+}
+
+impl Program {
+    // Its name: its index has it, and its outputs end in it.
+    fn name(self) -> &'static str {
+        match self {
+            Program::Docket => "docket",
+            Program::Clerk => "clerk",
+            Program::Statement => "statement",
+            Program::Tariff => "tariff",
+        }
+    }
+
+    // What it prints.
+    fn printed(self, heap: Global, input: &[u8]) -> Result<String, AllocError> {
+        match self {
+            Program::Docket => {
+                let answer = Answer(answer_to(input));
+                format!(in heap; "{answer}")
+            }
+            Program::Clerk => session(heap, input),
+            Program::Statement => statement(heap, input),
+            Program::Tariff => {
+                let answer = Answer(tariff_of(input));
+                format!(in heap; "{answer}")
+            }
+        }
+    }
+}
+
+// Compares what a program prints for each input of its index, and prints the names of those that differ and how many are the same.
+fn compare(rt: &HostRuntime, program: Program) -> anyhow::Result<()> {
+    let heap = rt.alloc();
+    let index = program.name();
+    let names = fs::read_to_string(rt, index)?;
+    let mut same = 0u32;
+    for name in names.as_str().lines() {
+        let input = format!(in heap; "{name}.in")?;
+        let output = format!(in heap; "{name}.{index}")?;
+        let input = fs::read(rt, input.as_str())?;
+        let expected = fs::read(rt, output.as_str())?;
+        let printed = program.printed(heap, input.as_slice())?;
+        if printed.as_bytes() == expected.as_slice() {
+            same = same.saturating_add(1);
+        } else {
+            println!(rt; "{name} differs")?;
+        }
+    }
+    println!(rt; "{index}: {same} same")?;
+    Ok(())
 }
 
 // Whether the docket that a file describes is written to the same bytes, and refused room for one byte less; None where it describes none.
@@ -33,29 +93,59 @@ fn rewrites(rt: &HostRuntime, file: &[u8]) -> anyhow::Result<Option<bool>> {
     Ok(Some(whole && asked))
 }
 
-fn main(rt: HostRuntime) -> anyhow::Result<()> {
+// Writes again the docket of each input of docket that describes one, and prints the names of those that differ and how many are the same.
+fn write_again(rt: &HostRuntime) -> anyhow::Result<()> {
     let heap = rt.alloc();
-    let index = fs::read_to_string(&rt, "index")?;
-    let mut same = 0u32;
-    let mut differ = 0u32;
+    let names = fs::read_to_string(rt, Program::Docket.name())?;
     let mut written = 0u32;
-    for name in index.as_str().lines() {
+    for name in names.as_str().lines() {
         let input = format!(in heap; "{name}.in")?;
-        let output = format!(in heap; "{name}.out")?;
-        let file = fs::read(&rt, input.as_str())?;
-        let expected = fs::read(&rt, output.as_str())?;
-        let again = rewrites(&rt, file.as_slice())?;
-        if answers(&rt, file.as_slice(), expected.as_slice())? && again != Some(false) {
-            same = same.saturating_add(1);
-        } else {
-            differ = differ.saturating_add(1);
-            println!(rt; "{name} differs")?;
-        }
-        if again == Some(true) {
-            written = written.saturating_add(1);
+        let file = fs::read(rt, input.as_str())?;
+        match rewrites(rt, file.as_slice())? {
+            Some(true) => written = written.saturating_add(1),
+            Some(false) => println!(rt; "{name} is written differently")?,
+            None => {}
         }
     }
-    println!(rt; "{same} same, {differ} differ")?;
     println!(rt; "{written} written again to the same bytes")?;
     Ok(())
+}
+
+// Prints each of the six calls as text.
+fn print_calls(rt: &HostRuntime) -> anyhow::Result<()> {
+    let entry = Entry {
+        side: 'S',
+        kind: 'C',
+        strike: 5_500,
+        days: 100,
+        price: 120,
+        quantity: 7,
+    };
+    let claim = Claim {
+        article: 4,
+        first: 2,
+        second: 1,
+        third: 3,
+        sets: 5,
+    };
+    for call in [
+        Call::Enter(entry),
+        Call::Claim(claim),
+        Call::Release(claim),
+        Call::Free(6),
+        Call::Total,
+        Call::Certify(&[25, -21]),
+    ] {
+        println!(rt; "{call}")?;
+    }
+    Ok(())
+}
+
+fn main(rt: HostRuntime) -> anyhow::Result<()> {
+    compare(&rt, Program::Docket)?;
+    write_again(&rt)?;
+    compare(&rt, Program::Clerk)?;
+    compare(&rt, Program::Statement)?;
+    compare(&rt, Program::Tariff)?;
+    print_calls(&rt)
 }

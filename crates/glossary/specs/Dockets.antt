@@ -8,7 +8,7 @@ use Rattle.answers.specs.Answers.{verdict_of}
 use Rattle.answers.specs.Texts.{verdict_text}
 use Rattle.examples.specs.Examples.{sample_size}
 use Rattle.money.specs.Texts.{dollars_text}
-use Rattle.worked.specs.Sample.{tables, tally, marks, other_marks}
+use Rattle.glossary.specs.Sample.{tables, tally, marks, other_marks}
 use Rattle.glossary.specs.Words.{parts_text, found_text}
 
 -- free units

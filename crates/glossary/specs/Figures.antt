@@ -16,7 +16,7 @@ use Rattle.certificate.specs.Totals.{free}
 use Rattle.answers.specs.declared.Verdict.TheVariants.{Least}
 use Rattle.answers.specs.Answers.{verdict_of}
 use Rattle.examples.specs.Examples.{sample, held}
-use Rattle.worked.specs.Sample.{tables, tally, marks, other_marks}
+use Rattle.glossary.specs.Sample.{tables, tally, marks, other_marks}
 
 -- the market of the sample sheet
 abbrev pub quote : Quote

@@ -1,3 +1,4 @@
+pub mod Sample
 pub mod Words
 pub mod Alone
 pub mod Sets

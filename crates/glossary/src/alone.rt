@@ -3,6 +3,7 @@ ghost use Rattle.std.specs.Prelude.{◌≡◌, IfOk, string_bytes};
 ghost use Rattle.glossary.specs.Alone.{part_text, requirement_text, long_requirement_text, short_requirement_text, futures_text, escrow_receipt_text};
 
 use crate::words::{Parts, Price};
+use crate::worked;
 use market::Market;
 use pricing::Contract;
 use std::alloc::{AllocError, Global};

@@ -4,10 +4,11 @@ ghost use Rattle.money.specs.Amounts.{amount};
 ghost use Rattle.pairing.specs.Pairing.{Set, Fair, LawfulPairing, mark, cost};
 ghost use Rattle.pairing.specs.Claims.{total, pairing_of};
 ghost use Rattle.examples.specs.Examples.{sample_size};
-ghost use Rattle.worked.specs.Sample.{tables, tally, marks};
+ghost use Rattle.glossary.specs.Sample.{tables, tally, marks};
 ghost use Rattle.glossary.specs.Dockets.{free_units_text, total_text, mark_text, fair_text, floor_text, lawful_pairing_text, least_text};
 
 use crate::words::Named;
+use crate::worked;
 use money::Dollars;
 use std::alloc::{AllocError, Global};
 

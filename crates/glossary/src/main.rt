@@ -8,6 +8,7 @@ mod screen;
 mod sets;
 mod terms;
 mod words;
+mod worked;
 
 fn main(rt: HostRuntime) -> anyhow::Result<()> {
     let page = screen::screen(rt.alloc())?;

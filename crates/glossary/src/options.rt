@@ -3,6 +3,7 @@ ghost use Rattle.std.specs.Prelude.{◌≡◌, IfOk, string_bytes};
 ghost use Rattle.glossary.specs.Alone.{in_the_money_text, out_of_the_money_text, time_value_text, counted_time_value_text, long_option_text, short_option_text, floor_amount_text};
 
 use crate::words::{Parts, Price};
+use crate::worked;
 use market::Market;
 use money::Dollars;
 use pricing::Contract;

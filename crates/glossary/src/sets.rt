@@ -3,6 +3,7 @@ ghost use Rattle.std.specs.Prelude.{◌≡◌, IfOk, string_bytes};
 ghost use Rattle.glossary.specs.Sets.{set_text, spread_text, straddle_text, protective_put_text, conversion_text, reconversion_text, receipt_call_text};
 
 use crate::words::{Price, Required};
+use crate::worked;
 use amounts::ContractSize;
 use market::Market;
 use pairing::set_takes;

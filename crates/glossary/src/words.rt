@@ -9,7 +9,7 @@ use money::Dollars;
 use std::fmt;
 
 // Cents, in dollars.
-#[derive(Clone, Copy, Debug, PartialEq, Eq)]
+#[derive(Clone, Copy)]
 pub struct Price(pub Cents);
 
 impl fmt::Display for Price {
@@ -21,7 +21,7 @@ impl fmt::Display for Price {
 }
 
 // Parts, in dollars.
-#[derive(Clone, Copy, Debug, PartialEq, Eq)]
+#[derive(Clone, Copy)]
 pub struct Parts(pub u64);
 
 impl fmt::Display for Parts {
@@ -33,7 +33,7 @@ impl fmt::Display for Parts {
 }
 
 // What an article says of a set.
-#[derive(Clone, Copy, Debug, PartialEq, Eq)]
+#[derive(Clone, Copy)]
 pub struct Required(pub Result<u64, ArticleFault>);
 
 // The requirement in dollars.
@@ -49,7 +49,7 @@ impl fmt::Display for Required {
 }
 
 // A breach, to be named.
-#[derive(Clone, Copy, Debug, PartialEq, Eq)]
+#[derive(Clone, Copy)]
 pub struct Named(pub Breach);
 
 // A position alone, or an article with its legs.

@@ -2,7 +2,7 @@
 ghost use Rattle.std.specs.Prelude.{◌≡◌, length, IfOk, string_bytes};
 ghost use Rattle.std.specs.Option.{option_map, option_copied};
 ghost use Rattle.refusals.specs.Before.{before_in};
-ghost use Rattle.refusals.specs.BadLines.{body_text, head_text, due_text, no_line_words, key_words, wrong_key_words, field_at_fault, field_words, numbered_words, ill_formed_words, up_to_sets, same_before, repeated_text, repeated_words, bad_words};
+ghost use Rattle.refusals.specs.BadLines.{body_text, head_text, due_text, no_line_words, key_words, wrong_key_words, field_at_fault, whole_text, ill_formed_text, missing_text, field_words, numbered_words, ill_formed_words, up_to_sets, same_before, repeated_text, repeated_words, bad_words};
 ghost use Rattle.refusals.specs.Words.{said};
 
 use crate::words::{Words, plain};
@@ -15,7 +15,7 @@ use wording::lines;
 use wording::names::ordinal;
 
 // A line of a file, by its number, the place that is named, and what is due there.
-#[derive(Clone, Copy, Debug, PartialEq, Eq)]
+#[derive(Clone, Copy)]
 pub struct BadLine<'a> {
     pub file: &'a [u8],
     pub number: usize,
@@ -84,6 +84,29 @@ fn key_words(heap: Global, kind: Option<LineKind>) -> Result<String, AllocError>
     }
 }
 
+// What a line of a kind is.
+fn whole_words(heap: Global, kind: LineKind) -> Result<String, AllocError>
+    ensures { IfOk result (λ t. string_bytes t ≡ whole_text kind) }
+{
+    format!(in heap; "a line is {}", kind.words())
+}
+
+// A field that is ill-formed.
+fn ill_formed_field(heap: Global, field: usize, name: &str) -> Result<String, AllocError>
+    ensures { IfOk result (λ t. string_bytes t ≡ ill_formed_text field name.now) }
+{
+    let ordinal = ordinal(field);
+    format!(in heap; "the {ordinal} field ({name}) is ill-formed")
+}
+
+// A field that is missing.
+fn missing_field(heap: Global, field: usize, name: &str) -> Result<String, AllocError>
+    ensures { IfOk result (λ t. string_bytes t ≡ missing_text field name.now) }
+{
+    let ordinal = ordinal(field);
+    format!(in heap; "the {ordinal} field ({name}) is missing")
+}
+
 // A field of a kind: a name that is there or not, or none.
 fn field_words(
     heap: Global,
@@ -94,20 +117,16 @@ fn field_words(
 ) -> Result<Words, AllocError>
     ensures { IfOk result (λ w. said w ≡ numbered_words kind place field there) }
 {
-    let ordinal = ordinal(field);
     let (wrong, right) = match kind.fields().get(field.saturating_sub(1)) {
         None => (
             String::from_str(heap, "a field too many")?,
-            format!(in heap; "a line is {}", kind.words())?,
+            whole_words(heap, kind)?,
         ),
         Some(name) if there => (
-            format!(in heap; "the {ordinal} field ({name}) is ill-formed")?,
+            ill_formed_field(heap, field, name)?,
             String::from_str(heap, kind.form(field).words())?,
         ),
-        Some(name) => (
-            format!(in heap; "the {ordinal} field ({name}) is missing")?,
-            format!(in heap; "a line is {}", kind.words())?,
-        ),
+        Some(name) => (missing_field(heap, field, name)?, whole_words(heap, kind)?),
     };
     Ok(Words {
         place: Some(place),

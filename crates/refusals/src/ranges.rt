@@ -13,7 +13,7 @@ use wording::fields::place_of;
 use wording::names::ordinal;
 
 // A number with commas.
-#[derive(Clone, Copy, Debug, PartialEq, Eq)]
+#[derive(Clone, Copy)]
 struct Grouped(u64);
 
 impl Display for Grouped {
@@ -30,7 +30,7 @@ impl Display for Grouped {
 }
 
 // A range from its lowest to its highest number.
-#[derive(Clone, Copy, Debug, PartialEq, Eq)]
+#[derive(Clone, Copy)]
 struct InWords(Range);
 
 impl Display for InWords {

@@ -4,7 +4,7 @@ ghost use Rattle.refusals.specs.Words.{said, saying};
 use std::alloc::{AllocError, Global};
 
 // What is wrong with a line and what would be right, in words; and the byte of the line that is marked, from 1, if one is.
-#[derive(Debug, PartialEq, Eq, Drop)]
+#[derive(Drop)]
 pub struct Words {
     pub place: Option<usize>,
     pub wrong: String,

@@ -12,7 +12,7 @@ use Rattle.figures.specs.declared.LineFigures.{LineFigures}
 use Rattle.figures.specs.Shown.{line_figures, term_of}
 use Rattle.wording.specs.Names.{article_name}
 use Rattle.statements.specs.Rules.{Rules}
-use Rattle.columns.specs.Columns.{left_text, number_text, amount_text, dash_text, rows_text}
+use Rattle.statements.specs.Columns.{left_text, number_text, amount_text, dash_text, rows_text}
 
 -- the difference of a conversion or of a reconversion
 abbrev pub difference_words : Article → List ℕ

@@ -1,4 +1,8 @@
+pub mod Columns
 pub mod Rules
+pub mod Sheet
+pub mod Positions
+pub mod Options
 pub mod Claims
 pub mod Marks
 pub mod Verdict

@@ -6,9 +6,9 @@ use Rattle.answers.specs.declared.FileFault.{FileFault}
 use Rattle.answers.specs.declared.Summary.{Summary}
 use Rattle.answers.specs.Answers.{summary_in}
 use Rattle.refusals.specs.Refused.{refused_text}
-use Rattle.columns.specs.Sheet.{sheet_section}
-use Rattle.columns.specs.Positions.{positions_section}
-use Rattle.columns.specs.Options.{options_section}
+use Rattle.statements.specs.Sheet.{sheet_section}
+use Rattle.statements.specs.Positions.{positions_section}
+use Rattle.statements.specs.Options.{options_section}
 use Rattle.statements.specs.Rules.{Rules, rules_by}
 use Rattle.statements.specs.Claims.{claims_section}
 use Rattle.statements.specs.Verdict.{verdict_section}

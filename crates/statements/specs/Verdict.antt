@@ -11,7 +11,7 @@ use Rattle.answers.specs.declared.Verdict.TheVariants.{Least, Gap, Absent}
 use Rattle.answers.specs.Answers.{verdict_of}
 use Rattle.money.specs.Texts.{dollars_text}
 use Rattle.figures.specs.Shown.{gap_of}
-use Rattle.columns.specs.Columns.{right_text, amount_text}
+use Rattle.statements.specs.Columns.{right_text, amount_text}
 use Rattle.statements.specs.Rules.{Rules}
 use Rattle.statements.specs.Marks.{refusal_words}
 

@@ -1,14 +1,14 @@
 // The claims standing: the rule that each set falls under, and what each line requires.
 ghost use Rattle.std.specs.Prelude.{◌≡◌, IfOk, string_bytes};
 ghost use Rattle.wording.specs.Names.{article_of};
-ghost use Rattle.columns.specs.Columns.{rows_text};
+ghost use Rattle.statements.specs.Columns.{rows_text};
 ghost use Rattle.statements.specs.Rules.{rules_on};
 ghost use Rattle.statements.specs.Claims.{legs_text, article_words, term_or_dash, term_under, set_text, claim_row, amount_columns, amount_row, claims_table, claims_section};
 
+use crate::columns::{amount, dash, left, number};
 use crate::terms::term_words;
 use articles::Article;
 use books::Sheet;
-use columns::columns::{amount, dash, left, number};
 use dockets::Docket;
 use figures::{LineFigures, line_figures, term_of};
 use money::Dollars;

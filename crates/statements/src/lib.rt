@@ -8,13 +8,16 @@ ghost use Rattle.statements.specs.Laws.{Least};
 ghost use Rattle.statements.specs.Page.{page_under, too_long_text, statement_text};
 
 mod claims;
+mod columns;
 mod marks;
+mod options;
+mod positions_held;
+mod sheet;
 mod terms;
 mod verdict;
 
 use answers::{FileFault, Summary, answer_to};
 use books::Sheet;
-use columns::{options, positions_held, sheet};
 use dockets::Docket;
 use files::load;
 use refusals::refused;

@@ -3,10 +3,10 @@ ghost use Rattle.std.specs.Prelude.{◌≡◌, IfOk, string_bytes};
 ghost use Rattle.statements.specs.Rules.{rules_on};
 ghost use Rattle.statements.specs.Verdict.{gap_words, verdict_words, floor_text, figure_lines, summary_words, fault_words, fault_lines, answer_words, verdict_section};
 
+use crate::columns::{amount, right};
 use crate::marks::refusal_words;
 use answers::{FileFault, Summary, Verdict};
 use books::Sheet;
-use columns::columns::{amount, right};
 use dockets::Docket;
 use figures::gap_of;
 use money::Dollars;

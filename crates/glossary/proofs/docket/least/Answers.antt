@@ -1,7 +1,7 @@
 use Rattle.std.proofs.Common.{ℕ, ◌≤◌, pos, ap, sym, subst, ◌∙◌}
 use Rattle.pairing.specs.Pairing.{cost}
 use Rattle.examples.specs.Examples.{sample_size}
-use Rattle.worked.specs.Sample.{tables, tally}
+use Rattle.glossary.specs.Sample.{tables, tally}
 use Rattle.glossary.proofs.docket.least.Goals as goal
 
 pub returns-clause-text : goal.returns-clause-text

@@ -1,7 +1,7 @@
 use Rattle.std.proofs.Common.{ℕ, ◌+◌, ◌<◌, List, ◌++◌, length, get_or, ap, ◌∙◌, rules}
 use Rattle.pairing.specs.declared.Claim.{Claim}
 use Rattle.pairing.specs.Kept.{no_claim}
-use Rattle.columns.proofs.Rows.{rows_more}
+use Rattle.statements.proofs.Rows.{rows_more}
 use Rattle.statements.specs.Rules.{rules_on}
 use Rattle.statements.specs.Claims.{amount_row}
 use Rattle.statements.proofs.claims.amount_rows.Goals as goal

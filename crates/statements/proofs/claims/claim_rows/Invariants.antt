@@ -1,5 +1,5 @@
 use Rattle.std.proofs.Common.{◌≡◌, take, string_bytes}
-use Rattle.columns.specs.Columns.{rows_text}
+use Rattle.statements.specs.Columns.{rows_text}
 use Rattle.statements.specs.Rules.{rules_on}
 use Rattle.statements.specs.Claims.{claim_row}
 use Rattle.statements.proofs.claims.claim_rows.Given as goal

@@ -1,4 +1,0 @@
-pub mod Columns
-pub mod Sheet
-pub mod Positions
-pub mod Options
