@@ -79,7 +79,7 @@ impl<'a> Standing<'a> {
     }
 
     // What the claims take of position `p`.
-    pub fn taken(&self, p: u64) -> u128
+    pub(crate) fn taken(&self, p: u64) -> u128
         ensures { result ≡ taken self.now.size.units self.now.held.now self.now.claims.now p }
     {
         self.claims.iter().map(|l| self.line_takes(l, p)).sum()
@@ -219,7 +219,7 @@ impl<'a, B: Book> Account<'a, B> {
 }
 
 // The sum of mark × units entered.
-pub fn floor(marked: &Marked) -> i128
+pub(crate) fn floor(marked: &Marked) -> i128
     ensures { result ≡ floor marked.now.held.now marked.now.marks.now }
 {
     // A loop, since the sum is signed and nothing says of a chain that such a sum fits.

@@ -14,7 +14,7 @@ mod sets;
 pub(crate) use alone::{
     escrow_receipt, futures, long_requirement, part, requirement, short_requirement,
 };
-pub(crate) use docket::{breach, certificate, free_units, mark, sample_docket, total, verdict};
+pub(crate) use docket::{breach, certificate, free_units, mark, total, verdict};
 pub(crate) use options::{
     before_floor, counted_half, counted_whole, floor_amount, in_the_money_call, in_the_money_put,
     long_option_half, long_option_whole, out_of_the_money_call, out_of_the_money_put, short_option,

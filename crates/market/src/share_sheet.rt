@@ -14,7 +14,7 @@ pub struct ShareSheet {
 }
 
 // A row of the table by price: the long percentage, and the short requirement of one unit.
-#[derive(Clone, Copy, Debug, PartialEq, Eq)]
+#[derive(Clone, Copy)]
 pub struct Row {
     pub long_rate: Rate,
     pub short: UnitAmount,

@@ -165,7 +165,7 @@ impl<M: Market> Contract<'_, M> {
     }
 
     // An option of either side.
-    pub fn option_alone(&self, right: Right, option: &Record) -> u64
+    pub(crate) fn option_alone(&self, right: Right, option: &Record) -> u64
         ensures { result ≡ option_alone self.now.quote self.now.size right (terms option.now) }
     {
         match option.side {

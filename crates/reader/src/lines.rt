@@ -41,7 +41,7 @@ fn value_of<T: Value + Drop>(line: &[u8], key: &[u8]) -> Result<T, LineFault>
 // The value of the next line, which is to be a key and one field.
 // Those that call it many times in a row need its definition only as a name, so it is unfolded here alone.
 #[tactic(auto, unfolding(crate::specs::Lines::value_line))]
-pub fn value_line<T: Value + Drop>(reader: &mut Reader, key: &[u8]) -> Result<T, ReadFault>
+pub(crate) fn value_line<T: Value + Drop>(reader: &mut Reader, key: &[u8]) -> Result<T, ReadFault>
     requires { length key.now ≤ 99 }
     ensures { got result reader.new.line (pieces reader.new) ≡ value_line T.Value.reads key.now reader.old.line (pieces reader.old) }
 {

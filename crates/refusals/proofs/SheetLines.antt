@@ -1,6 +1,6 @@
 -- The lines of a sheet from a number to its last.
 use Rattle.std.proofs.Common.{◌≡◌, ℕ, suc, ◌+◌, ◌-◌, ◌<◌, ◌≤◌, List, Some, None, ap, ◌∙◌, arith}
-use Rattle.wording.specs.declared.forms.LineKind.{LineKind}
+use Rattle.refusals.specs.declared.forms.LineKind.{LineKind}
 use Rattle.wording.specs.Lines.{line_at}
 use Rattle.refusals.specs.Sheets.{kind_out_of_range, value_or, value_words, no_value_words, values_from}
 

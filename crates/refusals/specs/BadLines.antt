@@ -4,11 +4,11 @@ use Rattle.std.specs.List.{before_last, range_with_len}
 use Rattle.std.specs.Str.{bytes_eq}
 use Rattle.reader.specs.declared.faults.LineCause.{LineCause}
 use Rattle.reader.specs.declared.faults.LineCause.TheVariants.{NoLine, WrongKey, IllFormed, Repeated}
-use Rattle.wording.specs.declared.forms.LineKind.{LineKind}
+use Rattle.refusals.specs.declared.forms.LineKind.{LineKind}
 use Rattle.wording.specs.Names.{ordinal}
 use Rattle.wording.specs.Lines.{line_at}
 use Rattle.wording.specs.Fields.{field_at, begins_at}
-use Rattle.wording.specs.Forms.{key_text, line_words, field_names, form_of, form_words, kind_of, due_kind}
+use Rattle.refusals.specs.Forms.{key_text, line_words, field_names, form_of, form_words, kind_of, due_kind}
 use Rattle.refusals.specs.Before.{Before}
 use Rattle.refusals.specs.Words.{Said, saying}
 

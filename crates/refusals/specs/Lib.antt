@@ -1,4 +1,5 @@
 pub mod Words
+pub mod Forms
 pub mod Before
 pub mod BadLines
 pub mod Sheets

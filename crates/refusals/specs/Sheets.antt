@@ -4,10 +4,10 @@ use Rattle.std.specs.Option.{option_map_or, option_and_then}
 use Rattle.amounts.specs.Ranges.{inside}
 use Rattle.text.specs.Numbers.{natural}
 use Rattle.reader.specs.Lines.{strip}
-use Rattle.wording.specs.declared.forms.LineKind.{LineKind}
-use Rattle.wording.specs.declared.forms.LineKind.TheVariants.{Price, Floor, Futures, Tracking, Spot}
+use Rattle.refusals.specs.declared.forms.LineKind.{LineKind}
+use Rattle.refusals.specs.declared.forms.LineKind.TheVariants.{Price, Floor, Futures, Tracking, Spot}
 use Rattle.wording.specs.Lines.{line_at}
-use Rattle.wording.specs.Forms.{key_text, kind_of}
+use Rattle.refusals.specs.Forms.{key_text, kind_of}
 use Rattle.refusals.specs.Words.{Said, saying}
 
 -- a contract size outside its range, whose value stands at byte 6

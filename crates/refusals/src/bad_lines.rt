@@ -5,12 +5,12 @@ ghost use Rattle.refusals.specs.Before.{before_in};
 ghost use Rattle.refusals.specs.BadLines.{body_text, head_text, due_text, no_line_words, key_words, wrong_key_words, field_at_fault, whole_text, ill_formed_text, missing_text, field_words, numbered_words, ill_formed_words, up_to_sets, same_before, repeated_text, repeated_words, bad_words};
 ghost use Rattle.refusals.specs.Words.{said};
 
+use crate::forms::LineKind;
 use crate::words::{Words, plain};
 use reader::faults::LineCause;
 use reading::Contents;
 use std::alloc::{AllocError, Global};
 use wording::fields::{begins_at, field_at};
-use wording::forms::LineKind;
 use wording::lines;
 use wording::names::ordinal;
 

@@ -9,6 +9,7 @@ ghost use Rattle.refusals.specs.Words.{said};
 
 mod bad_lines;
 mod calls;
+mod forms;
 mod legs;
 mod ranges;
 mod sheets;

@@ -3,10 +3,10 @@ ghost use Rattle.std.specs.Prelude.{◌≡◌, IfOk};
 ghost use Rattle.refusals.specs.Sheets.{size_words, outside, out_of_range, kind_out_of_range, value_right, value_words, sheet_words};
 ghost use Rattle.refusals.specs.Words.{said};
 
+use crate::forms::LineKind;
 use crate::words::{Words, plain};
 use std::alloc::{AllocError, Global};
 use text::numbers::natural_of;
-use wording::forms::LineKind;
 use wording::lines;
 
 // Where the value of a contract size begins.

@@ -10,8 +10,6 @@ mod replies;
 mod sent;
 mod serving;
 
-pub use replies::LineReply;
-pub use sent::{CallFault, Sent, call_in};
 use serving::Opened;
 use std::alloc::{AllocError, Global};
 

@@ -10,7 +10,7 @@ use runs::{Granted, Reply};
 use std::fmt;
 
 // The reply to a line: what its call is granted, the refusal of its call, or what is wrong with the line.
-#[derive(Clone, Copy, Debug, PartialEq, Eq)]
+#[derive(Clone, Copy)]
 pub enum LineReply {
     Granted(Granted),
     Refused(Refusal),

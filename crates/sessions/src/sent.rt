@@ -16,7 +16,7 @@ use text::BadField;
 use text::values::one_field;
 
 // One of the six calls, with its input as it is sent; any number of marks.
-#[derive(Debug, Drop)]
+#[derive(Drop)]
 pub enum Sent {
     Enter(Entry),
     Claim(Claim),
@@ -27,7 +27,7 @@ pub enum Sent {
 }
 
 // Why no call was read: the line is bad, or there is no memory for its marks.
-#[derive(Clone, Copy, Debug, PartialEq, Eq)]
+#[derive(Clone, Copy)]
 pub enum CallFault {
     Bad(LineFault),
     Memory(AllocError),
@@ -59,7 +59,7 @@ impl<T: Drop> From<AllocFailed<T>> for CallFault {
 
 impl Sent {
     // The call, with its marks lent.
-    pub fn call(&self) -> Call<'_>
+    pub(crate) fn call(&self) -> Call<'_>
         ensures { anywhere result ≡ call_of self.now }
     {
         match self {
@@ -86,7 +86,7 @@ fn word_in(heap: Global, line: &[u8]) -> Result<Sent, CallFault>
 
 // The call that a line sends: tests of the prefix in turn, since each name has its own value.
 #[tactic(auto, unfolding(crate::specs::Lines::call_at))]
-pub fn call_in(heap: Global, line: &[u8]) -> Result<Sent, CallFault>
+pub(crate) fn call_in(heap: Global, line: &[u8]) -> Result<Sent, CallFault>
     ensures { ReadAs call_of result (call_at line.now) }
 {
     if let Some(value) = line.strip_prefix(b"enter=") {

@@ -3,7 +3,7 @@
 
 pub mod fields;
 pub mod numbers;
-pub mod tokens;
+mod tokens;
 pub mod values;
 
 // The field that is ill-formed, missing or too many, by its place in the line.

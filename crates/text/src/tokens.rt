@@ -4,7 +4,7 @@ ghost use Rattle.std.specs.Option.{option_map};
 ghost use Rattle.text.specs.Tokens.{word_of, shown};
 
 // A stretch of the file: a word, a letter, a number, or what parts them.
-#[derive(Debug, Clone, Copy, PartialEq, Eq)]
+#[derive(Clone, Copy)]
 pub enum Token<'a> {
     Key(&'a [u8]),
     Letter(&'a [u8]),
@@ -14,7 +14,7 @@ pub enum Token<'a> {
 
 // The token that a stretch of bytes is.
 // No TryFrom: a stretch that is no token has no error to give.
-pub fn token_of<'a>(s: &'a [u8]) -> Option<Token<'a>>
+pub(crate) fn token_of<'a>(s: &'a [u8]) -> Option<Token<'a>>
     ensures { option_map shown result ≡ word_of s.now }
 {
     match s {

@@ -2,7 +2,6 @@
 #![tactic(auto)]
 
 pub mod fields;
-pub mod forms;
 pub mod lines;
 pub mod names;
 pub mod shown;

@@ -41,7 +41,7 @@ fn enter<'a>(side: char, kind: char, strike: u64, days: u64, price: u64, quantit
 }
 
 // 300 units long, two long puts of strike 48.00 at 1.50 and a short call of strike 55.00 at 1.20; two sets of article 4 claimed.
-pub(crate) fn sample_docket() -> Docket<ShareSheet>
+fn sample_docket() -> Docket<ShareSheet>
     ensures book { shares_on result.book ≡ sample }
     ensures size { result.size.units ≡ sample_size }
     ensures tally { result.tally ≡ tally }

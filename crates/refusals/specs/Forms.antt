@@ -1,10 +1,10 @@
 -- The lines of a file: their keys, their fields, and what a field may be.
 use Rattle.std.specs.Prelude.{ℕ, Bool, cond, ◌||◌, List, [], ◌∷◌, find, nat_eq, Some, None, codes, Option, ◌==◌}
 use Rattle.std.specs.List.{starts_with}
-use Rattle.wording.specs.declared.forms.LineKind.{LineKind}
-use Rattle.wording.specs.declared.forms.LineKind.TheVariants.{Size, Market, Price, Reduced, Floor, Futures, Tracking, Spot, Position, Claim, Mark}
-use Rattle.wording.specs.declared.forms.FieldForm.{FieldForm}
-use Rattle.wording.specs.declared.forms.FieldForm.TheVariants as form
+use Rattle.refusals.specs.declared.forms.LineKind.{LineKind}
+use Rattle.refusals.specs.declared.forms.LineKind.TheVariants.{Size, Market, Price, Reduced, Floor, Futures, Tracking, Spot, Position, Claim, Mark}
+use Rattle.refusals.specs.declared.forms.FieldForm.{FieldForm}
+use Rattle.refusals.specs.declared.forms.FieldForm.TheVariants as form
 
 -- what a field may be, in words
 abbrev pub form_words : FieldForm → List ℕ

@@ -1,9 +1,9 @@
 // The lines of a file: their keys, their fields, and what a field may be.
 ghost use Rattle.std.specs.Prelude.{◌≡◌, map};
-ghost use Rattle.wording.specs.Forms.{form_words, key_text, line_words, field_names, form_of, kind_of, due_kind};
+ghost use Rattle.refusals.specs.Forms.{form_words, key_text, line_words, field_names, form_of, kind_of, due_kind};
 
 // A line by what it is for.
-#[derive(Clone, Copy, Debug, PartialEq, Eq)]
+#[derive(Clone, Copy)]
 pub enum LineKind {
     Size,
     Market,
@@ -19,7 +19,7 @@ pub enum LineKind {
 }
 
 // A field by what may stand in it.
-#[derive(Clone, Copy, Debug, PartialEq, Eq)]
+#[derive(Clone, Copy)]
 pub enum FieldForm {
     Number,
     Rate,
@@ -31,7 +31,7 @@ pub enum FieldForm {
 
 impl FieldForm {
     // What the field may be, in words.
-    pub fn words(self) -> &'static str
+    pub(crate) fn words(self) -> &'static str
         ensures { result.now ≡ form_words self }
     {
         match self {
@@ -62,7 +62,7 @@ impl LineKind {
     ];
 
     // What the line begins with.
-    pub fn key(self) -> &'static str
+    pub(crate) fn key(self) -> &'static str
         ensures { result.now ≡ key_text self }
     {
         match self {
@@ -81,7 +81,7 @@ impl LineKind {
     }
 
     // The whole line, in words.
-    pub fn words(self) -> &'static str
+    pub(crate) fn words(self) -> &'static str
         ensures { result.now ≡ line_words self }
     {
         match self {
@@ -102,7 +102,7 @@ impl LineKind {
     }
 
     // The names of its fields.
-    pub fn fields(self) -> &'static [&'static str]
+    pub(crate) fn fields(self) -> &'static [&'static str]
         ensures { map (λ name. name.now) result.now ≡ field_names self }
     {
         match self {
@@ -121,7 +121,7 @@ impl LineKind {
     }
 
     // What may stand in a field, by its number.
-    pub fn form(self, field: usize) -> FieldForm
+    pub(crate) fn form(self, field: usize) -> FieldForm
         ensures { result ≡ form_of self field }
     {
         match (self, field) {
@@ -135,7 +135,7 @@ impl LineKind {
     }
 
     // The kind whose key a line begins with.
-    pub fn of(line: &[u8]) -> Option<LineKind>
+    pub(crate) fn of(line: &[u8]) -> Option<LineKind>
         ensures { result ≡ kind_of line.now }
     {
         LineKind::ALL
@@ -145,7 +145,7 @@ impl LineKind {
     }
 
     // The kind that a line of the head has to be, by its number and the market's name; none after the head.
-    pub fn due(number: usize, currency: bool) -> Option<LineKind>
+    pub(crate) fn due(number: usize, currency: bool) -> Option<LineKind>
         ensures { result ≡ due_kind number currency }
     {
         match (number, currency) {
