@@ -1,15 +1,15 @@
 #!/usr/bin/env python3
 """Says which stored output would show a definition that is wrong in the way of a planted bug.
 
-    tools/slips.py OUT CRATE [--max N] [--seed S] [--root ROOT]
+    tools/slips.py OUT CRATE [--max N] [--seed S] [--only WORD] [--root ROOT]
 
 A slip that is made alike in a definition and in its code is proved; so each bug that tools/plants.py knows in CRATE is planted
 alone, with no proof asked, in the program of stock Rust that tools/plain.py makes in OUT, and the programs with stored output
-are run until one prints something else. All places are tried, or N of them drawn by the seed (1 if not given). ROOT is the
-repository, this one if not given; its sources are copied to OUT at the start. A line is printed for each bug, of six columns
-with tabs between: the program that shows it (of prices, ranges, cases and glossary the first), or unseen, or
-no-program; the kind; file:line; the line that stood there; the line planted; and how it shows: output, hang (20 s), or the
-exit status (-6 is a panic); of no-program, the first error of rustc. The last lines, after #, are the counts.
+are run until one prints something else. All places are tried, or N of them drawn by the seed (1 if not given); with --only those
+in files whose path has WORD. ROOT is the repository, this one if not given; its sources are copied to OUT at the start. A line
+is printed for each bug, of six columns with tabs between: the program that shows it (of prices, ranges, cases and glossary the
+first), or unseen, or no-program; the kind; file:line; the line that stood there; the line planted; and how it shows: output,
+hang (20 s), or the exit status (-6 is a panic); of no-program, the first error of rustc. The last lines, after #, are the counts.
 """
 import argparse, collections, hashlib, pathlib, random, re, shutil, sys
 
@@ -62,6 +62,7 @@ def main():
     args.add_argument("crate")
     args.add_argument("--max", type=int, default=0)
     args.add_argument("--seed", default="1")
+    args.add_argument("--only", default="")
     args.add_argument("--root", default=str(plain.ROOT))
     args = args.parse_args()
     out = pathlib.Path(args.out).resolve()
@@ -83,7 +84,7 @@ def main():
 
     # One bug may be found as two kinds; it is tried once.
     places, known = [], set()
-    for site in plants.sites(root, args.crate, ""):
+    for site in plants.sites(root, args.crate, args.only):
         if site[1:] not in known:
             known.add(site[1:])
             places.append(site)
