@@ -2,7 +2,8 @@
 //!
 //! `generate DIR COUNT SEED` writes COUNT files, lawful ones and damaged ones.
 //! `generate largest FILE` writes one accepted file with as many lines as a
-//! lawful file can have.
+//! lawful file can have, and `generate largest FILE POSITIONS` one with that
+//! many positions, 4, 8, 12 and so on to 32.
 //!
 //! Prices come from `plain.rs`, so that claims are often grantable and marks
 //! often fair; what a program must answer is decided by neither.
@@ -11,7 +12,7 @@
 #[path = "plain.rs"]
 mod plain;
 
-use plain::{Article, Book, Entry, Kind, Market, Record, Rules, Side};
+use plain::{Article, Book, Entry, Kind, Market, Priced, Record, Rules, Side};
 use std::path::Path;
 use std::{env, fs, io, process};
 
@@ -19,7 +20,11 @@ fn main() -> io::Result<()> {
     let args: Vec<String> = env::args().skip(1).collect();
     let args: Vec<&str> = args.iter().map(String::as_str).collect();
     match args[..] {
-        ["largest", file] => fs::write(file, largest().text()),
+        ["largest", file] => fs::write(file, largest(MOST).text()),
+        ["largest", file, positions] => match positions.parse() {
+            Ok(n) if n % 4 == 0 && (4..=MOST).contains(&n) => fs::write(file, largest(n).text()),
+            _ => usage(),
+        },
         [dir, count, seed] => match (count.parse(), seed.parse()) {
             (Ok(count), Ok(seed)) => write_many(Path::new(dir), count, seed),
             _ => usage(),
@@ -29,7 +34,7 @@ fn main() -> io::Result<()> {
 }
 
 fn usage() -> ! {
-    eprintln!("usage: generate DIR COUNT SEED\n       generate largest FILE");
+    eprintln!("usage: generate DIR COUNT SEED\n       generate largest FILE [POSITIONS]");
     process::exit(2)
 }
 
@@ -192,8 +197,10 @@ impl Draft {
     }
 
     fn requirement(&self, article: usize, legs: &[usize]) -> Option<i64> {
-        let records: Vec<&Record> = legs.iter().map(|&leg| &self.records[leg]).collect();
-        self.book.set(self.article(article), &records).ok()
+        let price = |&leg: &usize| self.book.priced(self.records[leg]);
+        let priced: Vec<Priced> = legs.iter().map(price).collect();
+        let legs: Vec<&Priced> = priced.iter().collect();
+        self.book.set(self.article(article), &legs).ok()
     }
 
     /// The most sets that the free units fill.
@@ -664,15 +671,19 @@ fn damage_number(rng: &mut Rng, text: &mut Vec<u8>) {
 }
 
 // ---------------------------------------------------------------------------
-// The largest file
+// The largest files
 
-/// 32 positions, 64 claim lines and 32 fair marks on a share sheet.
-fn largest() -> Draft {
-    const EACH: usize = 7;
+const MOST: usize = 32;
+
+/// A share sheet with so many positions, a multiple of 4 up to 32, a fair mark for each, and at most two
+/// claim lines for each, no two alike. The positions are long and short calls and puts of as many strikes
+/// as leave room for futures and units of either side; four are those of one strike alone.
+fn largest(positions: usize) -> Draft {
+    let strikes = (positions / 4 - 1).max(1);
     let mut draft = Draft::share(1_000, 450_000, false, 500, Some(2_000), Some(150));
     let days = 1_000;
     let quantity = 5_000;
-    for i in 0..EACH as u64 {
+    for i in 0..strikes as u64 {
         let strike = 435_000 + 5_000 * i;
         let call = 450_000u64.saturating_sub(strike) + 12_345 - 1_000 * i;
         let put = strike.saturating_sub(450_000) + 5_432 + 1_000 * i;
@@ -692,7 +703,8 @@ fn largest() -> Draft {
             });
         }
     }
-    for side in [b'L', b'S'] {
+    let sides: &[u8] = if positions > 4 { b"LS" } else { b"" };
+    for &side in sides {
         draft.enter(Entry {
             side,
             kind: b'F',
@@ -711,15 +723,18 @@ fn largest() -> Draft {
         });
     }
     // Sets are few enough for every claim to find its units free.
-    for (article, lines) in [(1, 12), (2, 12), (3, 10), (4, 7), (5, 12), (6, 11)] {
-        for line in 0..lines {
-            let shape = draft.article(article).shape();
-            let leg = |(i, &(side, kind)): (usize, &(Side, Kind))| {
+    for (article, most) in [(1, 12), (2, 12), (3, 10), (4, 7), (5, 12), (6, 11)] {
+        for line in 0..most * positions / MOST {
+            let mut legs = Vec::new();
+            for (i, &(side, kind)) in draft.article(article).shape().iter().enumerate() {
                 let fitting = draft.of_kind(side, kind);
-                fitting[(line + i * (1 + line / EACH)) % fitting.len()]
-            };
-            let legs = shape.iter().enumerate().map(leg).collect();
-            draft.claim(article, legs, 400 + line as u64);
+                let at = line + i * (1 + line / strikes);
+                legs.extend(fitting.get(at % fitting.len().max(1)));
+            }
+            let whole = legs.len() == draft.article(article).shape().len();
+            if whole && !draft.has_line(article, &legs) {
+                draft.claim(article, legs, 400 + line as u64);
+            }
         }
     }
     draft.marks = draft.fair();

@@ -285,6 +285,12 @@ impl Record {
     }
 }
 
+/// A record with what one unit or contract of it requires by itself.
+pub struct Priced {
+    pub record: Record,
+    alone: i64,
+}
+
 // ---------------------------------------------------------------------------
 // The market
 
@@ -457,37 +463,44 @@ impl Book {
         }
     }
 
+    pub fn priced(&self, record: Record) -> Priced {
+        let alone = self.alone(&record);
+        Priced { record, alone }
+    }
+
     /// What one set requires, where the article allows it.
-    pub fn set(&self, article: Article, legs: &[&Record]) -> Result<i64, BookFault> {
+    pub fn set(&self, article: Article, legs: &[&Priced]) -> Result<i64, BookFault> {
         article.check_legs(legs)?;
+        self.set_of_legs(article, legs)
+    }
+
+    /// The same of legs that have their sides and kinds.
+    fn set_of_legs(&self, article: Article, legs: &[&Priced]) -> Result<i64, BookFault> {
         article.check_days(legs)?;
         match article {
             Article::CallSpread | Article::PutSpread => {
-                let difference = (legs[0].strike - legs[1].strike).abs();
-                Ok(self.alone(legs[1]).min(self.contract_cents(difference)))
+                let difference = (legs[0].record.strike - legs[1].record.strike).abs();
+                Ok(legs[1].alone.min(self.contract_cents(difference)))
             }
             Article::Straddle => {
                 let (call, put) = (legs[0], legs[1]);
-                let inverted = (put.strike - call.strike).max(0);
-                Ok(self
-                    .alone(call)
-                    .max(self.alone(put))
-                    .max(self.contract_cents(inverted)))
+                let inverted = (put.record.strike - call.record.strike).max(0);
+                Ok(call.alone.max(put.alone).max(self.contract_cents(inverted)))
             }
             Article::ProtectivePut => {
-                let put = legs[0];
+                let put = &legs[0].record;
                 let loss = (self.market.price + put.price - put.strike).max(0);
                 Ok(self
                     .contract(self.market.long)
                     .min(self.contract_cents(loss)))
             }
             Article::Conversion => {
-                let (put, call, futures) = (legs[0], legs[1], legs[2]);
+                let [put, call, futures] = [0, 1, 2].map(|i| &legs[i].record);
                 let cost = futures.price - put.strike.min(call.strike) + put.price - call.price;
                 Ok(self.tracking()?.max(self.contract_cents(cost)))
             }
             Article::Reconversion => {
-                let (put, call, futures) = (legs[0], legs[1], legs[2]);
+                let [put, call, futures] = [0, 1, 2].map(|i| &legs[i].record);
                 let cost = put.strike.max(call.strike) - futures.price + call.price - put.price;
                 Ok(self.tracking()?.max(self.contract_cents(cost)))
             }
@@ -520,22 +533,23 @@ impl Article {
         self.shape().len()
     }
 
-    fn check_legs(self, legs: &[&Record]) -> Result<(), BookFault> {
+    fn check_legs(self, legs: &[&Priced]) -> Result<(), BookFault> {
         for (i, (leg, &(side, kind))) in legs.iter().zip(self.shape()).enumerate() {
-            if !leg.is(side, kind) {
+            if !leg.record.is(side, kind) {
                 return Err(BookFault::WrongLeg(i + 1));
             }
         }
         Ok(())
     }
 
-    fn check_days(self, legs: &[&Record]) -> Result<(), BookFault> {
+    fn check_days(self, legs: &[&Priced]) -> Result<(), BookFault> {
+        let days = |i: usize| legs[i].record.days;
         match self {
-            Article::CallSpread | Article::PutSpread if legs[1].days > legs[0].days => {
+            Article::CallSpread | Article::PutSpread if days(1) > days(0) => {
                 Err(BookFault::Days(2))
             }
             Article::Conversion | Article::Reconversion => {
-                match legs.iter().position(|leg| leg.days != legs[0].days) {
+                match (1..legs.len()).find(|&i| days(i) != days(0)) {
                     Some(i) => Err(BookFault::Days(i + 1)),
                     None => Ok(()),
                 }
@@ -562,7 +576,7 @@ struct ClaimLine {
 }
 
 struct Position {
-    record: Record,
+    priced: Priced,
     free: u64,
 }
 
@@ -586,7 +600,7 @@ impl Docket {
         if let Some(i) = self
             .positions
             .iter()
-            .position(|p| p.record.same_series(&record))
+            .position(|p| p.priced.record.same_series(&record))
         {
             return Err(Refusal::HeldAlready(i + 1));
         }
@@ -594,7 +608,7 @@ impl Docket {
             return Err(Refusal::PositionsFull);
         }
         self.positions.push(Position {
-            record,
+            priced: self.book.priced(record),
             free: record.quantity,
         });
         Ok(())
@@ -621,15 +635,15 @@ impl Docket {
                 return Err(Refusal::LegTwice(i + 1));
             }
         }
-        let records: Vec<&Record> = legs
+        let priced: Vec<&Priced> = legs
             .iter()
-            .map(|&leg| &self.positions[leg].record)
+            .map(|&leg| &self.positions[leg].priced)
             .collect();
-        let requirement = self.book.set(article, &records).map_err(Refusal::Book)?;
+        let requirement = self.book.set(article, &priced).map_err(Refusal::Book)?;
         let size = self.book.size;
         for (i, &leg) in legs.iter().enumerate() {
             let position = &self.positions[leg];
-            if position.free < claim.sets * position.record.per_set(size) {
+            if position.free < claim.sets * position.priced.record.per_set(size) {
                 return Err(Refusal::UnitsShort(i + 1));
             }
         }
@@ -638,7 +652,7 @@ impl Docket {
         }
         for leg in legs {
             let position = &mut self.positions[leg];
-            position.free -= claim.sets * position.record.per_set(size);
+            position.free -= claim.sets * position.priced.record.per_set(size);
         }
         self.claims.push(ClaimLine { claim, requirement });
         Ok(())
@@ -669,7 +683,7 @@ impl Docket {
         let unclaimed: i128 = self
             .positions
             .iter()
-            .map(|p| p.free as i128 * self.book.alone(&p.record) as i128)
+            .map(|p| p.free as i128 * p.priced.alone as i128)
             .sum();
         claimed + unclaimed
     }
@@ -683,7 +697,7 @@ impl Docket {
             });
         }
         for (i, (position, &mark)) in self.positions.iter().zip(marks).enumerate() {
-            let limit = match position.record.kind {
+            let limit = match position.priced.record.kind {
                 Kind::Unit => UNIT_MARK_LIMIT,
                 _ => CONTRACT_MARK_LIMIT,
             };
@@ -696,34 +710,52 @@ impl Docket {
             .positions
             .iter()
             .zip(marks)
-            .map(|(p, &mark)| p.record.quantity as i128 * mark as i128)
+            .map(|(p, &mark)| p.priced.record.quantity as i128 * mark as i128)
             .sum())
     }
 
-    /// Looks for the first breach: positions alone, then each article's sets.
+    /// Looks for the first breach: positions alone, then each article's sets. For a leg, only the
+    /// positions of its side and its kind are tried, in order.
     fn check_fair(&self, marks: &[i64]) -> Result<(), Refusal> {
         for (i, (position, &mark)) in self.positions.iter().zip(marks).enumerate() {
-            if mark > self.book.alone(&position.record) {
+            if mark > position.priced.alone {
                 return Err(Refusal::AboveAlone(i + 1));
             }
         }
-        let count = self.positions.len();
         for (i, &article) in self.book.articles().iter().enumerate() {
-            for a in 0..count {
-                for b in (0..count).filter(|&b| b != a) {
-                    if article.leg_count() == 2 {
-                        self.check_set(i + 1, article, &[a, b], marks)?;
-                        continue;
-                    }
-                    for c in (0..count).filter(|&c| c != a && c != b) {
-                        self.check_set(i + 1, article, &[a, b, c], marks)?;
+            let check = |legs: &[usize]| self.check_set(i + 1, article, legs, marks);
+            match *article.shape() {
+                [first, second] => {
+                    let seconds = self.of(second);
+                    for a in self.of(first) {
+                        for &b in &seconds {
+                            check(&[a, b])?;
+                        }
                     }
                 }
+                [first, second, third] => {
+                    let (seconds, thirds) = (self.of(second), self.of(third));
+                    for a in self.of(first) {
+                        for &b in &seconds {
+                            for &c in &thirds {
+                                check(&[a, b, c])?;
+                            }
+                        }
+                    }
+                }
+                _ => unreachable!("an article has two or three legs"),
             }
         }
         Ok(())
     }
 
+    /// The positions of a side and a kind.
+    fn of(&self, (side, kind): (Side, Kind)) -> Vec<usize> {
+        let is = |&i: &usize| self.positions[i].priced.record.is(side, kind);
+        (0..self.positions.len()).filter(is).collect()
+    }
+
+    /// Judges a set whose legs have their sides and kinds, and so are distinct.
     fn check_set(
         &self,
         number: usize,
@@ -731,17 +763,18 @@ impl Docket {
         legs: &[usize],
         marks: &[i64],
     ) -> Result<(), Refusal> {
-        let mut records = [&self.positions[legs[0]].record; 3];
-        for (record, &leg) in records.iter_mut().zip(legs) {
-            *record = &self.positions[leg].record;
+        let mut priced = [&self.positions[legs[0]].priced; 3];
+        for (priced, &leg) in priced.iter_mut().zip(legs) {
+            *priced = &self.positions[leg].priced;
         }
-        let Ok(requirement) = self.book.set(article, &records[..legs.len()]) else {
+        let Ok(requirement) = self.book.set_of_legs(article, &priced[..legs.len()]) else {
             return Ok(());
         };
         let size = self.book.size;
         let worth: i64 = legs
             .iter()
-            .map(|&leg| marks[leg] * self.positions[leg].record.per_set(size) as i64)
+            .zip(priced)
+            .map(|(&leg, priced)| marks[leg] * priced.record.per_set(size) as i64)
             .sum();
         if worth > requirement {
             let mut named = [0; 3];

@@ -19,9 +19,13 @@ Check = Result (Unit {0}) ArticleFault
 abbrev pub unless : ArticleFault → Bool → Check
 unless fault holds = cond holds (Ok tt) (Err fault)
 
+-- a long call, a short put and so on: of the side and of the kind
+abbrev pub is_a : Side → Kind → Terms → Bool
+is_a side kind t = same_side t.side side && same_kind t.kind kind
+
 -- the leg has the side and the kind
 abbrev pub leg_is : Leg → Side → Kind → Terms → Check
-leg_is leg side kind t = unless (WrongLeg leg) (same_side t.side side && same_kind t.kind kind)
+leg_is leg side kind t = unless (WrongLeg leg) (is_a side kind t)
 
 -- the second leg's days are not above the first's
 abbrev pub not_later : Terms → Terms → Check

@@ -3,12 +3,19 @@ ghost use Rattle.std.specs.Prelude.{◌≡◌};
 ghost use Rattle.std.specs.Result.{result_map_both};
 ghost use Rattle.amounts.specs.Rates.{parts_in};
 ghost use Rattle.positions.specs.Records.{terms};
-ghost use Rattle.articles.specs.Conditions.{leg_is, not_later, same_days, tracked};
+ghost use Rattle.articles.specs.Conditions.{is_a, leg_is, not_later, same_days, tracked};
 
 use crate::{ArticleFault, Leg};
 use amounts::UnitAmount;
 use market::Market;
 use positions::{Kind, Record, Side};
+
+// Whether a position is of the side and of the kind.
+pub(crate) fn is_a(side: Side, kind: Kind, position: &Record) -> bool
+    ensures { result ≡ is_a side kind (terms position.now) }
+{
+    position.side == side && position.kind == kind
+}
 
 // A leg has its side and its kind.
 pub(crate) fn leg_is(
@@ -19,7 +26,7 @@ pub(crate) fn leg_is(
 ) -> Result<(), ArticleFault>
     ensures { result ≡ leg_is leg side kind (terms position.now) }
 {
-    if position.side == side && position.kind == kind {
+    if is_a(side, kind, position) {
         return Ok(());
     }
     Err(ArticleFault::WrongLeg(leg))

@@ -3,7 +3,8 @@
 #![tactic(auto)]
 
 ghost use Rattle.std.specs.Prelude.{◌≡◌};
-ghost use Rattle.articles.specs.ByArticle.{legs_of};
+ghost use Rattle.positions.specs.Records.{terms};
+ghost use Rattle.articles.specs.ByArticle.{legs_of, matches_leg};
 ghost use Rattle.articles.specs.Causes.{cause_number, leg_number, cause_leg, from_market};
 
 mod by_article;
@@ -12,8 +13,10 @@ mod legs;
 mod sets;
 
 pub use by_article::set_requirement;
+use checks::is_a;
 pub use legs::{ConversionLegs, conversion, protective_put, receipt_call, spread, straddle};
 use market::MarketFault;
+use positions::{Kind, Record, Side};
 
 // The articles by name.
 #[derive(Clone, Copy, Debug, PartialEq, Eq)]
@@ -66,6 +69,33 @@ impl Article {
             | Article::ProtectivePut
             | Article::ReceiptCall => 2,
         }
+    }
+
+    /// Whether a position has the side and the kind that the article asks of a leg; none has where there is no such leg.
+    /// What each article asks stands in docs/RULES.md, "The articles".
+    pub fn matches_leg(self, leg: Leg, position: &Record) -> bool
+        ensures { result ≡ matches_leg self leg (terms position.now) }
+    {
+        let (side, kind) = match (self, leg) {
+            (Article::CallSpread, Leg::First) => (Side::Long, Kind::Call),
+            (Article::CallSpread, Leg::Second) => (Side::Short, Kind::Call),
+            (Article::PutSpread, Leg::First) => (Side::Long, Kind::Put),
+            (Article::PutSpread, Leg::Second) => (Side::Short, Kind::Put),
+            (Article::Straddle, Leg::First) => (Side::Short, Kind::Call),
+            (Article::Straddle, Leg::Second) => (Side::Short, Kind::Put),
+            (Article::ProtectivePut, Leg::First) => (Side::Long, Kind::Put),
+            (Article::ProtectivePut, Leg::Second) => (Side::Long, Kind::Units),
+            (Article::Conversion, Leg::First) => (Side::Long, Kind::Put),
+            (Article::Conversion, Leg::Second) => (Side::Short, Kind::Call),
+            (Article::Conversion, Leg::Third) => (Side::Long, Kind::Futures),
+            (Article::Reconversion, Leg::First) => (Side::Short, Kind::Put),
+            (Article::Reconversion, Leg::Second) => (Side::Long, Kind::Call),
+            (Article::Reconversion, Leg::Third) => (Side::Short, Kind::Futures),
+            (Article::ReceiptCall, Leg::First) => (Side::Short, Kind::Call),
+            (Article::ReceiptCall, Leg::Second) => (Side::Long, Kind::Receipt),
+            (_, Leg::Third) => return false,
+        };
+        is_a(side, kind, position)
     }
 }
 

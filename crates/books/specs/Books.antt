@@ -52,3 +52,8 @@ currency_tables q = tables_over 5 currency_article q
 abbrev pub sheet_tables : Sheet → Tables
 sheet_tables (Share s) = share_tables (share_quote (shares_on s))
 sheet_tables (Currency c) = currency_tables (currency_quote (currency_on c))
+
+-- either sheet's articles
+abbrev pub sheet_article : Sheet → ℕ → Article
+sheet_article (Share s) = share_article
+sheet_article (Currency c) = currency_article

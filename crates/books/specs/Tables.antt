@@ -1,8 +1,10 @@
 -- The meaning of a book, and the limits that every book keeps.
-use Rattle.std.specs.Prelude.{◌≡◌, ℕ, ◌≤◌, List, map, length, Ok, Err, Result}
+use Rattle.std.specs.Prelude.{◌≡◌, ℕ, ◌-◌, ◌≤◌, List, map, length, Some, Ok, Err, Result, IsErr, slice_get}
 use Rattle.positions.specs.declared.Kind.TheVariants.{Units}
 use Rattle.positions.specs.declared.record.Record.{Record}
 use Rattle.positions.specs.Records.{terms}
+use Rattle.articles.specs.declared.Leg.{Leg}
+use Rattle.articles.specs.Causes.{leg_number}
 use Rattle.books.specs.declared.BookFault.{BookFault}
 
 -- the number of articles; the legs of each; what one unit or contract of a record requires alone, for a contract size;
@@ -38,3 +40,12 @@ pub record Lawful (t : Tables) : Type 0 where
   pub paired_limit : (size article : ℕ) (legs : List Record) → Size size → Has t article → length legs ≡ t.legs article → Within (t.paired size article legs)
   pub alone_alike : (size : ℕ) (r x : Record) → terms r ≡ terms x → t.alone size r ≡ t.alone size x
   pub paired_alike : (size article : ℕ) (legs others : List Record) → map terms legs ≡ map terms others → t.paired size article legs ≡ t.paired size article others
+
+-- the record is that one of the legs
+abbrev pub AtLeg : Leg → Record → List Record → Type 0
+AtLeg leg r legs = slice_get legs (leg_number leg - 1) ≡ Some r
+
+-- whatever the contract size and the other legs, every set of the article with the record at that leg is refused
+abbrev pub RefusedAt : Tables → ℕ → Leg → Record → Type 0
+RefusedAt t article leg r =
+    (size : ℕ) (legs : List Record) → Size size → length legs ≡ t.legs article → AtLeg leg r legs → IsErr (t.paired size article legs)

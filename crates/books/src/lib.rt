@@ -1,9 +1,9 @@
-// A book as a docket knows it: four tables that never change, and a question for each.
+// A book as a docket knows it: four tables that never change, a question for each, and one more by which a search asks less.
 #![tactic(auto)]
 
-ghost use Rattle.std.specs.Prelude.{◌≡◌, ◌≤◌, length, Some};
+ghost use Rattle.std.specs.Prelude.{◌≡◌, ◌≤◌, false, length, Some};
 ghost use Rattle.articles.specs.Causes.{leg_or_zero};
-ghost use Rattle.books.specs.Tables.{Tables, Has, Lawful};
+ghost use Rattle.books.specs.Tables.{Tables, Has, Lawful, RefusedAt};
 ghost use Rattle.books.specs.Texts.{fault_text};
 
 mod sheets;
@@ -49,7 +49,7 @@ impl fmt::Display for BookFault {
 
 impl Error for BookFault {}
 
-// Anything that keeps four such tables is a book.
+// Anything that keeps four such tables is a book; the question `may_be_leg` has a body of its own.
 // An article is asked for by its number, from 1: the product fixes the interface so, for any book.
 pub trait Book {
     ghost tables: { Self → Tables };
@@ -73,6 +73,15 @@ pub trait Book {
         requires has { Has (tables self.now) article }
         requires whole { length legs.now ≡ (tables self.now).legs article }
         ensures { result ≡ (tables self.now).paired size.units article legs.now };
+
+    /// Whether a position may be that leg of a set that the article allows. Where not, every set with it at that leg is refused,
+    /// so a search asks about none; a book that cannot tell says that it may.
+    fn may_be_leg(&self, article: u8, leg: Leg, position: &Record) -> bool
+        requires { Has (tables self.now) article }
+        ensures { result ≡ false → RefusedAt (tables self.now) article leg position.now }
+    {
+        true
+    }
 
     ghost lawful: { (b : Self) → Lawful (tables b) };
 }

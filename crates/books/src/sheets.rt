@@ -1,13 +1,16 @@
 // The share book and the currency book, and one enum of their two sheets that is a book too.
-ghost use Rattle.std.specs.Prelude.{◌≡◌, ℕ, ◌+◌, ◌<◌, ◌≤◌, length, slice_index_or};
+ghost use Rattle.std.specs.Prelude.{◌≡◌, ℕ, ◌+◌, ◌<◌, ◌≤◌, false, length, slice_index_or};
 ghost use Rattle.std.proofs.Common.{arith};
+ghost use Rattle.positions.specs.Records.{terms};
 ghost use Rattle.articles.specs.declared.Article.{Article};
-ghost use Rattle.books.specs.Books.{share_article, currency_article, tables_over, sheet_tables, raised};
+ghost use Rattle.articles.specs.ByArticle.{matches_leg};
+ghost use Rattle.books.specs.Tables.{Has, RefusedAt};
+ghost use Rattle.books.specs.Books.{share_article, currency_article, tables_over, sheet_article, sheet_tables, raised};
 ghost use Rattle.books.specs.Lawful.{lawful_over, sheet_lawful};
 
 use crate::{Book, BookFault};
 use amounts::ContractSize;
-use articles::{Article, ArticleFault, set_requirement};
+use articles::{Article, ArticleFault, Leg, set_requirement};
 use market::{CurrencySheet, Market, ShareSheet};
 use positions::Record;
 use pricing::Contract;
@@ -74,6 +77,15 @@ impl<M: Listed> Book for M {
             article_of(self, article),
             legs,
         )?)
+    }
+
+    fn may_be_leg(&self, article: u8, leg: Leg, position: &Record) -> bool
+        requires { Has (tables_over M.count M.numbered (M.Market.quote self.now)) article }
+        ensures law { result ≡ false →
+            RefusedAt (tables_over M.count M.numbered (M.Market.quote self.now)) article leg position.now }
+        ensures exact { result ≡ matches_leg (M.numbered article) leg (terms position.now) }
+    {
+        article_of(self, article).matches_leg(leg, position)
     }
 }
 
@@ -151,6 +163,18 @@ impl Book for Sheet {
         match self {
             Sheet::Share(sheet) => sheet.paired(size, article, legs),
             Sheet::Currency(sheet) => sheet.paired(size, article, legs),
+        }
+    }
+
+    fn may_be_leg(&self, article: u8, leg: Leg, position: &Record) -> bool
+        requires { Has (sheet_tables self.now) article }
+        ensures law { result ≡ false → RefusedAt (sheet_tables self.now) article leg position.now }
+        ensures exact { result ≡
+            matches_leg (sheet_article self.now article) leg (terms position.now) }
+    {
+        match self {
+            Sheet::Share(sheet) => sheet.may_be_leg(article, leg, position),
+            Sheet::Currency(sheet) => sheet.may_be_leg(article, leg, position),
         }
     }
 }

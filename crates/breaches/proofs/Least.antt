@@ -71,10 +71,10 @@ module _ (t : Tables) (law : Lawful t) (s : ℕ) (held : List Record) (ms : List
       (ap (λ r. above r (worth s held ms x.legs)) allowed.granted ∙ from_over (requirement t s held x) (worth s held ms x.legs) h.over))
       e
 
-  two_legs : (a i j : ℕ) → t.legs a ≡ 2 → third_leg t s held ms a i j ≡ set_breach t s held ms a (legs_of i j None)
+  pub two_legs : (a i j : ℕ) → t.legs a ≡ 2 → third_leg t s held ms a i j ≡ set_breach t s held ms a (legs_of i j None)
   two_legs a i j e = cond-true (eqb (t.legs a) 2) _ _ (eq-eqb (t.legs a) 2 e)
 
-  three_legs : (a i j : ℕ) → t.legs a ≡ 3 → third_leg t s held ms a i j ≡ third_of_three t s held ms a i j
+  pub three_legs : (a i j : ℕ) → t.legs a ≡ 3 → third_leg t s held ms a i j ≡ third_of_three t s held ms a i j
   three_legs a i j e = cond-false (eqb (t.legs a) 2) _ _ (ne_eqb (t.legs a) 2 (λ z. omega arith))
 
   -- ---- a breach is not passed over

@@ -1,3 +1,4 @@
 pub mod Firsts
 pub mod Least
 pub mod Fairness
+pub mod NotTried

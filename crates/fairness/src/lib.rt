@@ -1,13 +1,16 @@
 // The first breach of fairness.
 #![tactic(auto)]
 
-ghost use Rattle.std.specs.Prelude.{◌≡◌, ◌^◌, length, pos, ◌*ℤ◌, neg_ℤ, ◌≤ℤ◌, Some, int_lt};
+ghost use Rattle.std.specs.Prelude.{◌≡◌, ◌-◌, ◌^◌, false, length, pos, ◌*ℤ◌, neg_ℤ, ◌≤ℤ◌, Some, int_lt, slice_index_or};
 ghost use Rattle.books.specs.Tables.{Has};
 ghost use Rattle.pairing.specs.Pairing.{at, mark, lot, worth, answer, distinct};
-ghost use Rattle.breaches.specs.Search.{legs_in, set_at, alone_breach, set_breach, third_leg, second_leg, first_leg, first_alone, first_article, first_breach, Limited, NoneExactlyIfFair};
+ghost use Rattle.breaches.specs.Search.{legs_of, legs_in, set_at, alone_breach, set_breach, third_leg, second_leg, first_leg, first_alone, first_article, first_breach, Limited, NoneExactlyIfFair};
 ghost use Rattle.breaches.specs.First.{First};
+ghost use Rattle.articles.specs.declared.Leg.TheVariants as leg;
+ghost use Rattle.fairness.specs.NotTried.{OnlyRefused};
 
 use amounts::ContractSize;
+use articles::Leg;
 use books::{Book, BookFault};
 use breaches::{Breach, Legs};
 use pairing::{Marked, answer, at, lot, mark, mark_times};
@@ -26,6 +29,14 @@ fn passes(marks: i128, requirement: u64) -> bool
     ensures { result ≡ int_lt (pos requirement) marks }
 {
     marks > i128::from(requirement)
+}
+
+// Whether a position is refused, by its number, where 0 is read as 1; beyond the 32nd none is.
+fn is_refused(refused: &[bool; 32], position: u8) -> bool
+    ensures { result ≡ slice_index_or refused.now (position - 1) false }
+{
+    let i = usize::from(position).saturating_sub(1);
+    refused.get(i).copied().unwrap_or(false)
 }
 
 // Whether no position is a leg twice.
@@ -68,6 +79,20 @@ impl<B: Book> Search<'_, B> {
         }
     }
 
+    // Positions that the book refuses at a leg of an article, in their order: where it is true, no set with it there is allowed.
+    // The book is asked here once of each position; inside the loops it would be asked again and again.
+    fn refused_positions(&self, article: u8, leg: Leg) -> [bool; 32]
+        requires { Has (B.Book.tables self.now.book.now) article }
+        ensures { OnlyRefused (B.Book.tables self.now.book.now) self.now.marked.held.now
+            article leg result }
+    {
+        let mut refused = [false; 32];
+        for (i, record) in self.marked.held.iter().enumerate() {
+            refused[i] = !self.book.may_be_leg(article, leg, record);
+        }
+        refused
+    }
+
     // The first breach of a set, article by article.
     fn first_article(&self) -> Option<Breach>
         ensures { result ≡ first_article (B.Book.tables self.now.book.now) self.now.size.units self.now.marked.held.now self.now.marked.marks.now }
@@ -79,6 +104,9 @@ impl<B: Book> Search<'_, B> {
                 let under = Under {
                     search: self,
                     article,
+                    refused_first: self.refused_positions(article, Leg::First),
+                    refused_second: self.refused_positions(article, Leg::Second),
+                    refused_third: self.refused_positions(article, Leg::Third),
                 };
                 under.first_leg()
             },
@@ -114,12 +142,21 @@ impl<B: Book> Search<'_, B> {
     }
 }
 
-// A search among the sets of one article, which the book has. No Model, as for Search.
+// A search among the sets of one article, which the book has. Positions that the book refuses at a leg are not tried there. No Model, as for Search.
 #[derive(Drop)]
 struct Under<'s, 'a, B: Book> {
     search: &'s Search<'a, B>,
     article: u8,
+    refused_first: [bool; 32],
+    refused_second: [bool; 32],
+    refused_third: [bool; 32],
     ghost has: { Has (B.Book.tables search.now.book.now) article },
+    ghost only_first: { OnlyRefused (B.Book.tables search.now.book.now) search.now.marked.held.now
+        article leg.First refused_first },
+    ghost only_second: { OnlyRefused (B.Book.tables search.now.book.now) search.now.marked.held.now
+        article leg.Second refused_second },
+    ghost only_third: { OnlyRefused (B.Book.tables search.now.book.now) search.now.marked.held.now
+        article leg.Third refused_third },
 }
 
 impl<B: Book> Under<'_, '_, B> {
@@ -162,10 +199,32 @@ impl<B: Book> Under<'_, '_, B> {
         passes(self.search.worth(legs), requirement).then_some(Breach::Set { article, legs })
     }
 
+    // The breach of a set of three, if it is one. A function and no closure, since it asks that the article has three legs. Inlined, as the above is.
+    #[inline(always)]
+    fn three_breach(&self, first: u8, second: u8, third: u8) -> Option<Breach>
+        requires { (B.Book.tables self.now.search.now.book.now).legs self.now.article ≡ 3 }
+        ensures { result ≡
+            set_breach (B.Book.tables self.now.search.now.book.now) self.now.search.now.size.units
+            self.now.search.now.marked.held.now self.now.search.now.marked.marks.now
+            self.now.article (legs_of first second (Some third)) }
+    {
+        if is_refused(&self.refused_third, third) {
+            return None;
+        }
+        self.set_breach(Legs {
+            first,
+            second,
+            third: Some(third),
+        })
+    }
+
     // The first breach whose first two legs are given.
     fn third_leg(&self, first: u8, second: u8) -> Option<Breach>
         ensures { result ≡ third_leg (B.Book.tables self.now.search.now.book.now) self.now.search.now.size.units self.now.search.now.marked.held.now self.now.search.now.marked.marks.now self.now.article first second }
     {
+        if is_refused(&self.refused_second, second) {
+            return None;
+        }
         if self.search.book.legs(self.article) == 2 {
             return self.set_breach(Legs {
                 first,
@@ -173,19 +232,16 @@ impl<B: Book> Under<'_, '_, B> {
                 third: None,
             });
         }
-        (1..=self.search.positions()).find_map(|third| {
-            self.set_breach(Legs {
-                first,
-                second,
-                third: Some(third),
-            })
-        })
+        (1..=self.search.positions()).find_map(|third| self.three_breach(first, second, third))
     }
 
     // The first breach whose first leg is given.
     fn second_leg(&self, first: u8) -> Option<Breach>
         ensures { result ≡ second_leg (B.Book.tables self.now.search.now.book.now) self.now.search.now.size.units self.now.search.now.marked.held.now self.now.search.now.marked.marks.now self.now.article first }
     {
+        if is_refused(&self.refused_first, first) {
+            return None;
+        }
         (1..=self.search.positions()).find_map(|second| self.third_leg(first, second))
     }
 
