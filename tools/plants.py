@@ -14,7 +14,7 @@ import pathlib, random, re, subprocess, sys
 
 GROUPS = [["strike", "days", "price", "quantity"], ["article", "first", "second", "third", "sets"], ["one", "two", "three", "four"],
           ["floor", "futures", "tracking", "spot", "price"], ["total", "floor"], ["positions", "claims", "total"], ["low", "high"],
-          ["size", "held", "claims", "marks"], ["at", "line"], ["given", "held"], ["put", "call", "futures"], ["long", "short"]]
+          ["size", "held", "claims", "marks"], ["at", "line_number"], ["given", "held"], ["put", "call", "futures"], ["long", "short"]]
 COMPARE = {"<": ["<=", ">"], "<=": ["<", ">="], ">": [">=", "<"], ">=": [">", "<="], "==": ["!="], "!=": ["=="]}
 ARITH = {"+": ["-"], "-": ["+"], "*": ["+"], "+=": ["-="], "-=": ["+="]}
 WORDS = {"saturating_sub": "saturating_add", "saturating_add": "saturating_sub", "checked_sub": "checked_add", "checked_add": "checked_sub",

@@ -7,9 +7,9 @@ A slip that is made alike in a definition and in its code is proved; so each bug
 alone, with no proof asked, in the program of stock Rust that tools/plain.py makes in OUT, and the programs with stored output
 are run until one prints something else. All places are tried, or N of them drawn by the seed (1 if not given); with --only those
 in files whose path has WORD. ROOT is the repository, this one if not given; its sources are copied to OUT at the start. A line
-is printed for each bug, of six columns with tabs between: the program that shows it (of prices, ranges, cases and glossary the
-first), or unseen, or no-program; the kind; file:line; the line that stood there; the line planted; and how it shows: output,
-hang (20 s), or the exit status (-6 is a panic); of no-program, the first error of rustc. The last lines, after #, are the counts.
+is printed for each bug, of six columns with tabs between: the program that shows it (of cases and glossary the first), or unseen,
+or no-program; the kind; file:line; the line that stood there; the line planted; and how it shows: output, hang (20 s), or the exit
+status (-6 is a panic); of no-program, the first error of rustc. The last lines, after #, are the counts.
 """
 import argparse, collections, hashlib, pathlib, random, re, shutil, sys
 

@@ -1,21 +1,25 @@
-// Answers every input that the four indexes list, as the programs docket, clerk, statement and tariff do, and compares what is answered with the output stored beside it;
-// writes every docket that an input of docket describes, into a buffer that just holds it and into one that does not;
-// and prints the text of each call.
+//! Prices positions and sets, tries every range at its edges, and prints what comes;
+//! answers every input that the four indexes list, as the programs docket, clerk, statement and tariff do, and compares what is answered with the output stored beside it;
+//! writes every docket that an input of docket describes, into a buffer that just holds it and into one that does not;
+//! and prints the text of each call.
 #![tactic(auto)]
 
-use answers::{Answer, answer_to};
-use pairing::Claim;
-use positions::Entry;
-use reading::read;
-use runs::Call;
-use sessions::session;
-use statements::statement;
+mod prices;
+mod ranges;
+
+use answer_docket::{Answer, answer_to};
+use answer_session::session;
+use answer_tariff::tariff_of;
+use calls_serve::Call;
+use certificate_pairing::Claim;
+use file_reading::read;
+use file_writing::write;
+use page_statement::statement;
+use rules_positions::Entry;
 use std::alloc::{AllocError, Global};
 use std::fs;
-use tariffs::tariff_of;
-use writing::write;
 
-// A program by what it prints for its input.
+/// A program by what it prints for its input.
 #[derive(Clone, Copy)]
 enum Program {
     Docket,
@@ -25,7 +29,7 @@ enum Program {
 }
 
 impl Program {
-    // Its name: its index has it, and its outputs end in it.
+    /// Its name: its index has it, and its outputs end in it.
     fn name(self) -> &'static str {
         match self {
             Program::Docket => "docket",
@@ -35,7 +39,7 @@ impl Program {
         }
     }
 
-    // What it prints.
+    /// What it prints.
     fn printed(self, heap: Global, input: &[u8]) -> Result<String, AllocError> {
         match self {
             Program::Docket => {
@@ -52,7 +56,7 @@ impl Program {
     }
 }
 
-// Compares what a program prints for each input of its index, and prints the names of those that differ and how many are the same.
+/// Compares what a program prints for each input of its index, and prints the names of those that differ and how many are the same.
 fn compare(rt: &HostRuntime, program: Program) -> anyhow::Result<()> {
     let heap = rt.alloc();
     let index = program.name();
@@ -74,26 +78,26 @@ fn compare(rt: &HostRuntime, program: Program) -> anyhow::Result<()> {
     Ok(())
 }
 
-// Whether the docket that a file describes is written to the same bytes, and refused room for one byte less; None where it describes none.
+/// Whether the docket that a file describes is written to the same bytes, and refused room for one byte less; None where it describes none.
 fn rewrites(rt: &HostRuntime, file: &[u8]) -> anyhow::Result<Option<bool>> {
     let heap = rt.alloc();
     // Places for the marks, and how many are filled: reading takes them in this form, which the product fixes.
     let mut marks = [0i64; 32];
-    let Ok(contents) = read(file, &mut marks) else {
+    let Ok(content) = read(file, &mut marks) else {
         return Ok(None);
     };
-    let marks = &marks[..contents.marks];
+    let marks = &marks[..content.marks];
     let mut room = vec![in heap; 0u8; file.len()]?;
     let mut short = vec![in heap; 0u8; file.len().saturating_sub(1)]?;
-    let written = write(heap, &contents.docket, marks, room.as_mut_slice());
-    let refused = write(heap, &contents.docket, marks, short.as_mut_slice());
+    let written = write(heap, &content.docket, marks, room.as_mut_slice());
+    let refused = write(heap, &content.docket, marks, short.as_mut_slice());
     let whole = matches!(written, Ok(n) if n == file.len()) && room.as_slice() == file;
     let asked =
         matches!(refused, Err(fault) if fault.number() == 21 && fault.details().one == file.len());
     Ok(Some(whole && asked))
 }
 
-// Writes again the docket of each input of docket that describes one, and prints the names of those that differ and how many are the same.
+/// Writes again the docket of each input of docket that describes one, and prints the names of those that differ and how many are the same.
 fn write_again(rt: &HostRuntime) -> anyhow::Result<()> {
     let heap = rt.alloc();
     let names = fs::read_to_string(rt, Program::Docket.name())?;
@@ -111,7 +115,7 @@ fn write_again(rt: &HostRuntime) -> anyhow::Result<()> {
     Ok(())
 }
 
-// Prints each of the six calls as text.
+/// Prints each of the six calls as text.
 fn print_calls(rt: &HostRuntime) -> anyhow::Result<()> {
     let entry = Entry {
         side: 'S',
@@ -142,6 +146,8 @@ fn print_calls(rt: &HostRuntime) -> anyhow::Result<()> {
 }
 
 fn main(rt: HostRuntime) -> anyhow::Result<()> {
+    prices::print(&rt)?;
+    ranges::print(&rt)?;
     compare(&rt, Program::Docket)?;
     write_again(&rt)?;
     compare(&rt, Program::Clerk)?;

@@ -1,14 +1,17 @@
-// Reads a docket's file from standard input, and prints its figures or why it is refused.
+//! Reads a docket's file from standard input, and prints its figures or why it is refused.
 #![tactic(auto)]
 
-use answers::{Answer, answer_to};
+use answer_docket::{Answer, answer_to};
+use file_head::limit::FILE_LIMIT;
 use std::io;
 use std::io::Read;
 
 fn main(rt: HostRuntime) -> io::Result<()> {
-    // Read as in the program tariff: a function for both would be no shorter than these lines.
+    // One byte more than a file may have is enough to know that it is too long.
     let mut file = Vec::new(rt.alloc());
-    rt.stdin().take(65_537).read_to_end(&mut file)?;
+    rt.stdin()
+        .take(FILE_LIMIT as u64 + 1)
+        .read_to_end(&mut file)?;
     let answer = Answer(answer_to(file.as_slice()));
     print!(rt; "{answer}")
 }

@@ -3,8 +3,9 @@ use Rattle.std.specs.Prelude.{ℕ, List, [], ◌∷◌, codes}
 use Rattle.glossary.specs.declared.terms.Term.{Term}
 use Rattle.glossary.specs.declared.terms.Term.TheVariants.{Part, Requirement, LongRequirement, ShortRequirement, InTheMoney, OutOfTheMoney, TimeValue, CountedTimeValue, LongOption, ShortOption, FloorAmount, Futures, EscrowReceipt, Set, Spread, Straddle, ProtectivePut, Conversion, Reconversion, ReceiptCall, FreeUnits, Total, Mark, Fair, Floor, LawfulPairing, Least}
 
-abbrev pub terms : List Term
-terms =
+-- the terms in the order of the screen
+abbrev pub all_terms : List Term
+all_terms =
     Part
     ∷ Requirement
     ∷ LongRequirement

@@ -1,16 +1,16 @@
-// Worked figures of amounts and of positions alone.
+//! Worked figures of amounts and of positions alone.
 ghost use Rattle.std.specs.Prelude.{◌≡◌, IfOk, string_bytes};
-ghost use Rattle.glossary.specs.Alone.{part_text, requirement_text, long_requirement_text, short_requirement_text, futures_text, escrow_receipt_text};
+ghost use Rattle.glossary.specs.Alone.{part_figure, requirement_figure, long_requirement_figure, short_requirement_figure, futures_figure, escrow_receipt_figure};
 
 use crate::words::{Parts, Price};
 use crate::worked;
-use market::Market;
-use pricing::Contract;
+use rules_market::Market;
+use rules_pricing::Contract;
 use std::alloc::{AllocError, Global};
 
-// Part: the floor rate of 1.25.
+/// Part: the floor rate of 1.25.
 pub(crate) fn part<M: Market>(heap: Global, market: &M) -> Result<String, AllocError>
-    ensures { IfOk result (λ t. string_bytes t ≡ part_text (M.Market.quote market.now)) }
+    ensures { IfOk result (λ t. string_bytes t ≡ part_figure (M.quote market.now)) }
 {
     let rate = market.floor_rate().basis_points;
     let parts = worked::part(market);
@@ -20,12 +20,12 @@ pub(crate) fn part<M: Market>(heap: Global, market: &M) -> Result<String, AllocE
     )
 }
 
-// Requirement: a short call alone.
+/// Requirement: a short call alone.
 pub(crate) fn requirement<M: Market>(
     heap: Global,
     contract: &Contract<M>,
 ) -> Result<String, AllocError>
-    ensures { IfOk result (λ t. string_bytes t ≡ requirement_text contract.now.quote contract.now.size) }
+    ensures { IfOk result (λ t. string_bytes t ≡ requirement_figure contract.now) }
 {
     let size = contract.size.units;
     let price = Price(contract.market.price());
@@ -33,39 +33,39 @@ pub(crate) fn requirement<M: Market>(
     format!(in heap; "A short call of strike 55.00 at 1.20, on {size} units at {price}: {amount}.")
 }
 
-// Long requirement: a unit held long.
+/// Long requirement: a unit held long.
 pub(crate) fn long_requirement<M: Market>(heap: Global, market: &M) -> Result<String, AllocError>
-    ensures { IfOk result (λ t. string_bytes t ≡ long_requirement_text (M.Market.quote market.now)) }
+    ensures { IfOk result (λ t. string_bytes t ≡ long_requirement_figure (M.quote market.now)) }
 {
     let price = Price(market.price());
     let amount = Parts(worked::long_requirement(market));
     format!(in heap; "A unit at {price}: {amount}.")
 }
 
-// Short requirement: a unit held short.
+/// Short requirement: a unit held short.
 pub(crate) fn short_requirement<M: Market>(heap: Global, market: &M) -> Result<String, AllocError>
-    ensures { IfOk result (λ t. string_bytes t ≡ short_requirement_text (M.Market.quote market.now)) }
+    ensures { IfOk result (λ t. string_bytes t ≡ short_requirement_figure (M.quote market.now)) }
 {
     let price = Price(market.price());
     let amount = Parts(worked::short_requirement(market));
     format!(in heap; "A unit at {price}: {amount}.")
 }
 
-// Futures: a contract alone.
+/// Futures: a contract alone.
 pub(crate) fn futures<M: Market>(heap: Global, contract: &Contract<M>) -> Result<String, AllocError>
-    ensures { IfOk result (λ t. string_bytes t ≡ futures_text contract.now.quote contract.now.size) }
+    ensures { IfOk result (λ t. string_bytes t ≡ futures_figure contract.now) }
 {
     let size = contract.size.units;
     let amount = Parts(worked::futures(contract));
     format!(in heap; "At a settlement of 50.60, on {size} units: {amount}.")
 }
 
-// Escrow receipt: one alone.
+/// Escrow receipt: one alone.
 pub(crate) fn escrow_receipt<M: Market>(
     heap: Global,
     contract: &Contract<M>,
 ) -> Result<String, AllocError>
-    ensures { IfOk result (λ t. string_bytes t ≡ escrow_receipt_text contract.now.quote contract.now.size) }
+    ensures { IfOk result (λ t. string_bytes t ≡ escrow_receipt_figure contract.now) }
 {
     let amount = Parts(worked::escrow_receipt(contract));
     format!(in heap; "A receipt: {amount}.")

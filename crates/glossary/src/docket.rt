@@ -1,27 +1,27 @@
-// Worked figures of the sample docket.
+//! Worked figures of the sample docket.
 ghost use Rattle.std.specs.Prelude.{◌≡◌, ◌≤◌, List, IfOk, string_bytes};
-ghost use Rattle.money.specs.Amounts.{amount};
-ghost use Rattle.pairing.specs.Pairing.{Set, Fair, LawfulPairing, mark, cost};
-ghost use Rattle.pairing.specs.Claims.{total, pairing_of};
-ghost use Rattle.examples.specs.Examples.{sample_size};
-ghost use Rattle.glossary.specs.Sample.{tables, tally, marks};
-ghost use Rattle.glossary.specs.Dockets.{free_units_text, total_text, mark_text, fair_text, floor_text, lawful_pairing_text, least_text};
+ghost use Rattle.page_money.specs.Amounts.{dollars_amount};
+ghost use Rattle.certificate_pairing.specs.Pairing.{Set, IsFair, IsLawfulPairing, mark, cost};
+ghost use Rattle.certificate_pairing.specs.Claims.{total, pairing_of, FairIn, LawfulIn, cost_in};
+ghost use Rattle.rules_priced_examples.specs.Examples.{sample_size};
+ghost use Rattle.glossary.specs.Sample.{tables, tally, marks, sample_docket};
+ghost use Rattle.glossary.specs.Dockets.{free_units_figure, total_figure, mark_figure, fair_figure, floor_figure, lawful_pairing_figure, least_figure};
 
 use crate::words::Named;
 use crate::worked;
-use money::Dollars;
+use page_money::Dollars;
 use std::alloc::{AllocError, Global};
 
-// The mark of a position of the sample docket.
+/// The mark of a position of the sample docket.
 fn marked(position: u64) -> Dollars
-    ensures { amount result ≡ mark marks position }
+    ensures { dollars_amount result ≡ mark marks position }
 {
     Dollars::from(i128::from(worked::mark(position)))
 }
 
-// Free units: of each position.
+/// Free units: of each position.
 pub(crate) fn free_units(heap: Global) -> Result<String, AllocError>
-    ensures { IfOk result (λ t. string_bytes t ≡ free_units_text) }
+    ensures { IfOk result (λ t. string_bytes t ≡ free_units_figure) }
 {
     let units = worked::free_units(1);
     let puts = worked::free_units(2);
@@ -31,17 +31,17 @@ pub(crate) fn free_units(heap: Global) -> Result<String, AllocError>
     )
 }
 
-// Total: with its claims.
+/// Total: with its claims.
 pub(crate) fn total(heap: Global) -> Result<String, AllocError>
-    ensures { IfOk result (λ t. string_bytes t ≡ total_text) }
+    ensures { IfOk result (λ t. string_bytes t ≡ total_figure) }
 {
     let total = Dollars::from(worked::total());
     format!(in heap; "The sample docket, as claimed: {total}.")
 }
 
-// Mark: of each position.
+/// Mark: of each position.
 pub(crate) fn mark(heap: Global) -> Result<String, AllocError>
-    ensures { IfOk result (λ t. string_bytes t ≡ mark_text) }
+    ensures { IfOk result (λ t. string_bytes t ≡ mark_figure) }
 {
     let unit = marked(1);
     let put = marked(2);
@@ -51,10 +51,10 @@ pub(crate) fn mark(heap: Global) -> Result<String, AllocError>
     )
 }
 
-// Fair: the marks, and those with 0 for the put.
+/// Fair: the marks, and those with 0 for the put.
 pub(crate) fn fair(heap: Global) -> Result<String, AllocError>
-    ensures text { IfOk result (λ t. string_bytes t ≡ fair_text) }
-    ensures fair { Fair tables sample_size tally.held marks }
+    ensures text { IfOk result (λ t. string_bytes t ≡ fair_figure) }
+    ensures fair { FairIn sample_docket marks }
 {
     let floor = Dollars::from(worked::certificate().floor);
     let breach = Named(worked::breach());
@@ -63,9 +63,9 @@ pub(crate) fn fair(heap: Global) -> Result<String, AllocError>
     )
 }
 
-// Floor: of the marks.
+/// Floor: of the marks.
 pub(crate) fn floor(heap: Global) -> Result<String, AllocError>
-    ensures { IfOk result (λ t. string_bytes t ≡ floor_text) }
+    ensures { IfOk result (λ t. string_bytes t ≡ floor_figure) }
 {
     let unit = marked(1);
     let put = marked(2);
@@ -74,19 +74,20 @@ pub(crate) fn floor(heap: Global) -> Result<String, AllocError>
     format!(in heap; "{unit} for 300 units, {put} for two puts and {call} for one call: {sum}.")
 }
 
-// Lawful pairing: that of the claims.
+/// Lawful pairing: that of the claims.
 pub(crate) fn lawful_pairing(heap: Global) -> Result<String, AllocError>
-    ensures text { IfOk result (λ t. string_bytes t ≡ lawful_pairing_text) }
-    ensures lawful { LawfulPairing tables sample_size tally.held (pairing_of tally.claims) }
+    ensures text { IfOk result (λ t. string_bytes t ≡ lawful_pairing_figure) }
+    ensures lawful { LawfulIn sample_docket (pairing_of tally.claims) }
 {
     let cost = Dollars::from(worked::total());
     format!(in heap; "The two protective puts of the sample docket are one. It costs {cost}.")
 }
 
-// Least: what the floor says of the total. No lawful pairing costs less than that.
+/// Least: what the floor says of the total. No lawful pairing costs less than that.
 pub(crate) fn least(heap: Global) -> Result<String, AllocError>
-    ensures text { IfOk result (λ t. string_bytes t ≡ least_text) }
-    ensures least { (xs : List Set) → LawfulPairing tables sample_size tally.held xs → total tables sample_size tally.held tally.claims ≤ cost tables sample_size tally.held xs }
+    ensures text { IfOk result (λ t. string_bytes t ≡ least_figure) }
+    ensures least { (xs : List Set) → LawfulIn sample_docket xs
+        → total sample_docket ≤ cost_in sample_docket xs }
 {
     let whole = Dollars::from(worked::total());
     let floor = Dollars::from(worked::certificate().floor);

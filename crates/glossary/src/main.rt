@@ -1,4 +1,4 @@
-// Prints the terms of the margin rules, each with its sentence and a worked figure.
+//! Prints the terms of the margin rules, each with its sentence and a worked figure.
 #![tactic(auto)]
 
 mod alone;

@@ -1,17 +1,17 @@
-// Worked figures of options.
+//! Worked figures of options.
 ghost use Rattle.std.specs.Prelude.{◌≡◌, IfOk, string_bytes};
-ghost use Rattle.glossary.specs.Alone.{in_the_money_text, out_of_the_money_text, time_value_text, counted_time_value_text, long_option_text, short_option_text, floor_amount_text};
+ghost use Rattle.glossary.specs.Alone.{in_the_money_figure, out_of_the_money_figure, time_value_figure, counted_time_value_figure, long_option_figure, short_option_figure, floor_amount_figure};
 
 use crate::words::{Parts, Price};
 use crate::worked;
-use market::Market;
-use money::Dollars;
-use pricing::Contract;
+use page_money::Dollars;
+use rules_market::Market;
+use rules_pricing::Contract;
 use std::alloc::{AllocError, Global};
 
-// In the money: a call and a put.
+/// In the money: a call and a put.
 pub(crate) fn in_the_money<M: Market>(heap: Global, market: &M) -> Result<String, AllocError>
-    ensures { IfOk result (λ t. string_bytes t ≡ in_the_money_text (M.Market.quote market.now)) }
+    ensures { IfOk result (λ t. string_bytes t ≡ in_the_money_figure (M.quote market.now)) }
 {
     let price = Price(market.price());
     let call = Price(worked::in_the_money_call(market));
@@ -19,9 +19,9 @@ pub(crate) fn in_the_money<M: Market>(heap: Global, market: &M) -> Result<String
     format!(in heap; "At {price}, a call of strike 45.00: {call}; a put of strike 53.00: {put}.")
 }
 
-// Out of the money: a call and a put.
+/// Out of the money: a call and a put.
 pub(crate) fn out_of_the_money<M: Market>(heap: Global, market: &M) -> Result<String, AllocError>
-    ensures { IfOk result (λ t. string_bytes t ≡ out_of_the_money_text (M.Market.quote market.now)) }
+    ensures { IfOk result (λ t. string_bytes t ≡ out_of_the_money_figure (M.quote market.now)) }
 {
     let price = Price(market.price());
     let call = Price(worked::out_of_the_money_call(market));
@@ -29,30 +29,30 @@ pub(crate) fn out_of_the_money<M: Market>(heap: Global, market: &M) -> Result<St
     format!(in heap; "At {price}, a call of strike 55.00: {call}; a put of strike 48.00: {put}.")
 }
 
-// Time value: of a call.
+/// Time value: of a call.
 pub(crate) fn time_value<M: Market>(heap: Global, market: &M) -> Result<String, AllocError>
-    ensures { IfOk result (λ t. string_bytes t ≡ time_value_text (M.Market.quote market.now)) }
+    ensures { IfOk result (λ t. string_bytes t ≡ time_value_figure (M.quote market.now)) }
 {
     let price = Price(market.price());
     let time = Price(worked::time_value(market));
     format!(in heap; "At {price}, a call of strike 45.00 at a premium of 6.20: {time}.")
 }
 
-// Counted time value: of that call, on either side of 270 days.
+/// Counted time value: of that call, on either side of 270 days.
 pub(crate) fn counted_time_value<M: Market>(heap: Global, market: &M) -> Result<String, AllocError>
-    ensures { IfOk result (λ t. string_bytes t ≡ counted_time_value_text (M.Market.quote market.now)) }
+    ensures { IfOk result (λ t. string_bytes t ≡ counted_time_value_figure (M.quote market.now)) }
 {
     let whole = Parts(worked::counted_whole(market));
     let half = Parts(worked::counted_half(market));
     format!(in heap; "Of that call: {whole} with 269 days to expiry, {half} with 270.")
 }
 
-// Long option: that call, held long, on either side of 270 days.
+/// Long option: that call, held long, on either side of 270 days.
 pub(crate) fn long_option<M: Market>(
     heap: Global,
     contract: &Contract<M>,
 ) -> Result<String, AllocError>
-    ensures { IfOk result (λ t. string_bytes t ≡ long_option_text contract.now.quote contract.now.size) }
+    ensures { IfOk result (λ t. string_bytes t ≡ long_option_figure contract.now) }
 {
     let size = contract.size.units;
     let whole = Parts(worked::long_option_whole(contract));
@@ -62,12 +62,12 @@ pub(crate) fn long_option<M: Market>(
     )
 }
 
-// Short option: a call whose first amount is the greater, and one whose floor amount is.
+/// Short option: a call whose first amount is the greater, and one whose floor amount is.
 pub(crate) fn short_option<M: Market>(
     heap: Global,
     contract: &Contract<M>,
 ) -> Result<String, AllocError>
-    ensures { IfOk result (λ t. string_bytes t ≡ short_option_text contract.now.quote contract.now.size) }
+    ensures { IfOk result (λ t. string_bytes t ≡ short_option_figure contract.now) }
 {
     let near = Parts(worked::short_option(contract));
     let far = Parts(worked::short_option_floored(contract));
@@ -76,12 +76,12 @@ pub(crate) fn short_option<M: Market>(
     )
 }
 
-// Floor amount: of the second of these, beside its first amount.
+/// Floor amount: of the second of these, beside its first amount.
 pub(crate) fn floor_amount<M: Market>(
     heap: Global,
     contract: &Contract<M>,
 ) -> Result<String, AllocError>
-    ensures { IfOk result (λ t. string_bytes t ≡ floor_amount_text contract.now.quote contract.now.size) }
+    ensures { IfOk result (λ t. string_bytes t ≡ floor_amount_figure contract.now) }
 {
     let floor = Parts(worked::floor_amount(contract));
     let first = Dollars::from(i128::from(worked::before_floor(contract)));

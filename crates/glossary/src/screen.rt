@@ -1,21 +1,22 @@
-// The screen: each term, its sentence, and its worked figure.
+//! The screen: each term, its sentence, and its worked figure.
 ghost use Rattle.std.specs.Prelude.{◌≡◌, IfOk, string_bytes};
-ghost use Rattle.market.specs.Share.{share_quote};
-ghost use Rattle.examples.specs.Examples.{sample, sample_size};
+ghost use Rattle.rules_market.specs.Share.{share_quote};
+ghost use Rattle.rules_priced_examples.specs.Examples.{sample, sample_size};
 ghost use Rattle.glossary.specs.Worked.{worked_text};
-ghost use Rattle.glossary.specs.Screen.{entry_text, screen_text};
-ghost use Rattle.glossary.specs.Figures.{Figures};
+ghost use Rattle.glossary.specs.Screen.{term_text, screen_text};
+ghost use Rattle.glossary.specs.Figures.{WorkedFigures};
+ghost use Rattle.rules_pricing.specs.Priced.{contracts_of};
 
 use crate::terms::Term;
 use crate::{alone, docket, options, sets};
-use examples::{sample_sheet, sample_size};
-use market::Market;
-use pricing::Contract;
+use rules_market::Market;
+use rules_priced_examples::{sample_sheet, sample_size};
+use rules_pricing::Contract;
 use std::alloc::{AllocError, Global};
 
-// The worked figure of a term.
+/// The worked figure of a term.
 fn worked<M: Market>(heap: Global, contract: &Contract<M>, term: Term) -> Result<String, AllocError>
-    ensures { IfOk result (λ t. string_bytes t ≡ worked_text contract.now.quote contract.now.size term) }
+    ensures { IfOk result (λ t. string_bytes t ≡ worked_text contract.now term) }
 {
     match term {
         Term::Part => alone::part(heap, contract.market),
@@ -48,9 +49,9 @@ fn worked<M: Market>(heap: Global, contract: &Contract<M>, term: Term) -> Result
     }
 }
 
-// A term, its sentence, and its worked figure.
+/// A term, its sentence, and its worked figure.
 fn entry<M: Market>(heap: Global, contract: &Contract<M>, term: Term) -> Result<String, AllocError>
-    ensures { IfOk result (λ t. string_bytes t ≡ entry_text contract.now.quote contract.now.size term) }
+    ensures { IfOk result (λ t. string_bytes t ≡ term_text contract.now term) }
 {
     let name = term.name();
     let sentence = term.sentence();
@@ -58,10 +59,11 @@ fn entry<M: Market>(heap: Global, contract: &Contract<M>, term: Term) -> Result<
     format!(in heap; "\n{name}\n{sentence}\n    {figure}\n")
 }
 
-// All terms, on the sample sheet. Its figures are these numbers, by the definitions that the rules are priced by.
+/// All terms, on the sample sheet. Its figures are these numbers, by the definitions that the rules are priced by.
 pub(crate) fn screen(heap: Global) -> Result<String, AllocError>
-    ensures text { IfOk result (λ t. string_bytes t ≡ screen_text (share_quote sample) sample_size) }
-    ensures figures { Figures }
+    ensures text { IfOk result (λ t. string_bytes t
+        ≡ screen_text (contracts_of (share_quote sample) sample_size)) }
+    ensures figures { WorkedFigures }
 {
     let sheet = sample_sheet();
     let contract = Contract {

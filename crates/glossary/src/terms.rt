@@ -1,7 +1,8 @@
-// The terms of the margin rules, in the order of the rules, and a sentence for each.
+//! The terms of the margin rules, in the order of the rules, and a sentence for each.
 ghost use Rattle.std.specs.Prelude.{◌≡◌};
-ghost use Rattle.glossary.specs.Terms.{terms, name_text, sentence_text};
+ghost use Rattle.glossary.specs.Terms.{all_terms, name_text, sentence_text};
 
+/// A term of the margin rules.
 #[derive(Clone, Copy)]
 pub enum Term {
     Part,
@@ -34,9 +35,9 @@ pub enum Term {
 }
 
 impl Term {
-    // All terms, in the order of the rules.
+    /// All terms, in the order of the rules.
     pub(crate) fn all() -> [Term; 27]
-        ensures { result ≡ terms }
+        ensures { result ≡ all_terms }
     {
         [
             Term::Part,
@@ -69,7 +70,7 @@ impl Term {
         ]
     }
 
-    // The term itself.
+    /// The term itself.
     pub(crate) fn name(self) -> &'static str
         ensures { result.now ≡ name_text self }
     {
@@ -104,7 +105,7 @@ impl Term {
         }
     }
 
-    // Its sentence, in lines of at most 96 characters.
+    /// Its sentence, in lines of at most 96 characters.
     pub(crate) fn sentence(self) -> &'static str
         ensures { result.now ≡ sentence_text self }
     {

@@ -1,14 +1,14 @@
-// Amounts, requirements and breaches as text.
+//! Amounts, requirements and breaches as text.
 ghost use Rattle.std.specs.Prelude.{Some};
 ghost use Rattle.glossary.specs.Words.{parts_text, cents_text, required_text, breach_text};
 
-use amounts::Cents;
-use articles::ArticleFault;
-use breaches::{Breach, Legs};
-use money::Dollars;
+use certificate_fairness::{Breach, Legs};
+use page_money::Dollars;
+use rules_amounts::Cents;
+use rules_articles::ArticleFault;
 use std::fmt;
 
-// Cents, in dollars.
+/// Cents, in dollars.
 #[derive(Clone, Copy)]
 pub struct Price(pub Cents);
 
@@ -20,7 +20,7 @@ impl fmt::Display for Price {
     }
 }
 
-// Parts, in dollars.
+/// Parts, in dollars.
 #[derive(Clone, Copy)]
 pub struct Parts(pub u64);
 
@@ -32,11 +32,11 @@ impl fmt::Display for Parts {
     }
 }
 
-// What an article says of a set.
+/// What an article says of a set.
 #[derive(Clone, Copy)]
 pub struct Required(pub Result<u64, ArticleFault>);
 
-// The requirement in dollars.
+/// The requirement in dollars.
 impl fmt::Display for Required {
     ghost output = { λ r. Some (required_text r.0) };
 
@@ -48,11 +48,11 @@ impl fmt::Display for Required {
     }
 }
 
-// A breach, to be named.
+/// A breach, to be named.
 #[derive(Clone, Copy)]
 pub struct Named(pub Breach);
 
-// A position alone, or an article with its legs.
+/// A position alone, or an article with its legs.
 impl fmt::Display for Named {
     ghost output = { λ b. Some (breach_text b.0) };
 

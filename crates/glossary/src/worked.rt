@@ -1,10 +1,10 @@
-// The worked figure of each term of the margin rules: examples, each computed by the function that prices every docket, in any market.
-#![tactic(auto, unfolding(positions::specs::Ranges::in_range))]
+//! The worked figure of each term of the margin rules: examples, each computed by the function that prices every docket, in any market.
+#![tactic(auto, unfolding(rules_positions::specs::Ranges::in_range))]
 
 ghost use Rattle.std.specs.Prelude.{◌≡◌, true};
-ghost use Rattle.positions.specs.Ranges.{in_range};
-ghost use Rattle.positions.specs.Records.{terms};
-ghost use Rattle.examples.specs.Examples.{held};
+ghost use Rattle.rules_positions.specs.Ranges.{in_range};
+ghost use Rattle.rules_positions.specs.Records.{terms};
+ghost use Rattle.rules_priced_examples.specs.Examples.{held};
 
 mod alone;
 mod docket;
@@ -20,10 +20,10 @@ pub(crate) use options::{
     long_option_half, long_option_whole, out_of_the_money_call, out_of_the_money_put, short_option,
     short_option_floored, time_value,
 };
-use positions::{Kind, Record, Side};
+use rules_positions::{Kind, Record, Side};
 pub(crate) use sets::{conversion, protective_put, receipt_call, reconversion, spread, straddle};
 
-// One unit or contract of a position.
+/// One unit or contract of a position.
 fn one(side: Side, kind: Kind, strike: u32, days: u16, price: u32) -> Record
     requires { in_range side kind strike days price ≡ true }
     ensures { terms result ≡ held side kind strike days price }

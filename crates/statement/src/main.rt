@@ -1,14 +1,17 @@
-// Reads a docket's file from standard input, and prints it as a page that can be read, or why it is refused, in words.
+//! Reads a docket's file from standard input, and prints it as a page that can be read, or why it is refused, in words.
 #![tactic(auto)]
 
-use statements::statement;
+use file_head::limit::FILE_LIMIT;
+use page_statement::statement;
 use std::io;
 use std::io::Read;
 
 fn main(rt: HostRuntime) -> io::Result<()> {
-    // Read as in the program docket: a function for both would be no shorter than these lines.
+    // One byte more than a file may have is enough to know that it is too long.
     let mut file = Vec::new(rt.alloc());
-    rt.stdin().take(65_537).read_to_end(&mut file)?;
+    rt.stdin()
+        .take(FILE_LIMIT as u64 + 1)
+        .read_to_end(&mut file)?;
     let page = statement(rt.alloc(), file.as_slice())?;
     print!(rt; "{page}")
 }

@@ -1,15 +1,18 @@
-// Reads a docket's file from standard input, and prints what one unit or contract of each position requires alone.
+//! Reads a docket's file from standard input, and prints what one unit or contract of each position requires alone.
 #![tactic(auto)]
 
-use answers::Answer;
+use answer_docket::Answer;
+use answer_tariff::tariff_of;
+use file_head::limit::FILE_LIMIT;
 use std::io;
 use std::io::Read;
-use tariffs::tariff_of;
 
 fn main(rt: HostRuntime) -> io::Result<()> {
-    // Read as in the program docket: a function for both would be no shorter than these lines.
+    // One byte more than a file may have is enough to know that it is too long.
     let mut file = Vec::new(rt.alloc());
-    rt.stdin().take(65_537).read_to_end(&mut file)?;
+    rt.stdin()
+        .take(FILE_LIMIT as u64 + 1)
+        .read_to_end(&mut file)?;
     let answer = Answer(tariff_of(file.as_slice()));
     print!(rt; "{answer}")
 }

@@ -1,34 +1,44 @@
-// The sample docket, made by its calls, and what it answers.
+//! The sample docket, made by its calls, and what it answers.
 ghost use Rattle.std.specs.Prelude.{◌≡◌, IfOk, Some, Ok, Err};
-ghost use Rattle.market.specs.Share.{shares_on};
-ghost use Rattle.pairing.specs.Pairing.{Position, mark, LawfulPairing, cost, floor};
-ghost use Rattle.pairing.specs.Claims.{total, pairing_of, Shown};
-ghost use Rattle.breaches.specs.Search.{first_breach};
-ghost use Rattle.certificate.specs.Totals.{free};
-ghost use Rattle.dockets.specs.Calls.{certificate_reply};
-ghost use Rattle.runs.specs.Laws.{Holds};
-ghost use Rattle.answers.specs.Answers.{verdict_of};
-ghost use Rattle.examples.specs.Examples.{sample, sample_size};
-ghost use Rattle.glossary.specs.Sample.{tables, tally, marks, other_marks};
+ghost use Rattle.rules_market.specs.Share.{shares_on};
+ghost use Rattle.certificate_pairing.specs.Pairing.{IsPosition, mark, IsLawfulPairing, cost, floor};
+ghost use Rattle.certificate_pairing.specs.Claims.{total, pairing_of, CertificateShows, LawfulIn, cost_in};
+ghost use Rattle.certificate_fairness.specs.Search.{first_breach};
+ghost use Rattle.certificate_certify.specs.Totals.{free};
+ghost use Rattle.calls_docket.specs.Calls.{certificate_reply};
+ghost use Rattle.calls_serve.specs.Laws.{Holds};
+ghost use Rattle.answer_docket.specs.Answers.{verdict_of};
+ghost use Rattle.rules_priced_examples.specs.Examples.{sample, sample_size};
+ghost use Rattle.glossary.specs.Sample.{tables, tally, marks, other_marks, sample_docket};
 
-use answers::{Summary, Verdict};
-use breaches::Breach;
-use certificate::Certificate;
-use dockets::{Docket, Refusal};
-use examples::sample_sheet;
-use market::ShareSheet;
-use pairing::Claim;
-use positions::Entry;
-use runs::{Call, Granted, run};
+use answer_docket::{Summary, Verdict};
+use calls_docket::{Docket, Refusal};
+use calls_serve::{Call, Granted, run};
+use certificate_certify::Certificate;
+use certificate_fairness::Breach;
+use certificate_pairing::Claim;
+use rules_market::ShareSheet;
+use rules_positions::Entry;
+use rules_priced_examples::sample_sheet;
 
-// The marks of the sample docket, and the same with 0 for the put.
+/// The marks of the sample docket, and the same with 0 for the put.
 const MARKS: [i64; 3] = [25_000_000, -2_150_000_000, 2_120_000_000];
 
 const OTHER_MARKS: [i64; 3] = [25_000_000, 0, 2_120_000_000];
 
-// A call of enter.
+/// A call of enter.
 fn enter<'a>(side: char, kind: char, strike: u64, days: u64, price: u64, quantity: u64) -> Call<'a>
-    ensures { result ≡ Call.Enter (record { side = side; kind = kind; strike = strike; days = days; price = price; quantity = quantity }) }
+    ensures { result
+        ≡ Call.Enter
+        (record {
+          side = side;
+          kind = kind;
+          strike = strike;
+          days = days;
+          price = price;
+          quantity =
+              quantity;
+        }) }
 {
     Call::Enter(Entry {
         side,
@@ -40,12 +50,12 @@ fn enter<'a>(side: char, kind: char, strike: u64, days: u64, price: u64, quantit
     })
 }
 
-// 300 units long, two long puts of strike 48.00 at 1.50 and a short call of strike 55.00 at 1.20; two sets of article 4 claimed.
+/// 300 units long, two long puts of strike 48.00 at 1.50 and a short call of strike 55.00 at 1.20; two sets of article 4 claimed.
 fn sample_docket() -> Docket<ShareSheet>
     ensures book { shares_on result.book ≡ sample }
-    ensures size { result.size.units ≡ sample_size }
+    ensures size { result.size ≡ sample_size }
     ensures tally { result.tally ≡ tally }
-    ensures holds { Holds tables sample_size tally }
+    ensures holds { Holds sample_docket }
 {
     let calls = [
         enter('L', 'U', 0, 0, 0, 300),
@@ -67,10 +77,10 @@ fn sample_docket() -> Docket<ShareSheet>
     }
 }
 
-// Free units: of a position of the sample docket.
+/// Free units: of a position of the sample docket.
 pub(crate) fn free_units(position: u64) -> u32
-    requires { Position tally.held position }
-    ensures { result ≡ free sample_size tally.held tally.claims position }
+    requires { IsPosition tally.held position }
+    ensures { result ≡ free sample_docket position }
 {
     match sample_docket().free(position) {
         Ok(units) => units,
@@ -79,34 +89,34 @@ pub(crate) fn free_units(position: u64) -> u32
     }
 }
 
-// Total: of the sample docket. Its claims are a lawful pairing, which costs that.
+/// Total: of the sample docket. Its claims are a lawful pairing, which costs that.
 pub(crate) fn total() -> u128
-    ensures value { result ≡ total tables sample_size tally.held tally.claims }
-    ensures lawful { LawfulPairing tables sample_size tally.held (pairing_of tally.claims) }
-    ensures cost { result ≡ cost tables sample_size tally.held (pairing_of tally.claims) }
+    ensures value { result ≡ total sample_docket }
+    ensures lawful { LawfulIn sample_docket (pairing_of tally.claims) }
+    ensures cost { result ≡ cost_in sample_docket (pairing_of tally.claims) }
 {
     sample_docket().total()
 }
 
-// Mark: that of a position of the sample docket.
+/// Mark: that of a position of the sample docket.
 pub(crate) fn mark(position: u64) -> i64
     ensures { result ≡ mark marks position }
 {
-    pairing::mark(&MARKS, position)
+    certificate_pairing::mark(&MARKS, position)
 }
 
-// What certify says of marks on the sample docket, and what a certificate then shows.
+/// What certify says of marks on the sample docket, and what a certificate then shows.
 fn certify(marks: &[i64]) -> Result<Certificate, Refusal>
-    ensures value { result ≡ certificate_reply tables sample_size tally marks.now }
-    ensures shown { IfOk result (λ c. Shown tables sample_size tally.held tally.claims marks.now c.total c.floor) }
+    ensures value { result ≡ certificate_reply sample_docket marks.now }
+    ensures shown { IfOk result (λ c. CertificateShows sample_docket marks.now c.total c.floor) }
 {
     sample_docket().certify(marks)
 }
 
-// Fair, and floor: the certificate of the sample docket's marks. They are fair, and the floor is theirs.
+/// Fair, and floor: the certificate of the sample docket's marks. They are fair, and the floor is theirs.
 pub(crate) fn certificate() -> Certificate
-    ensures value { Ok result ≡ certificate_reply tables sample_size tally marks }
-    ensures shown { Shown tables sample_size tally.held tally.claims marks result.total result.floor }
+    ensures value { Ok result ≡ certificate_reply sample_docket marks }
+    ensures shown { CertificateShows sample_docket marks result.total result.floor }
 {
     match certify(&MARKS) {
         Ok(certificate) => certificate,
@@ -115,9 +125,9 @@ pub(crate) fn certificate() -> Certificate
     }
 }
 
-// Fair: the breach of the same marks with 0 for the put.
+/// Fair: the breach of the same marks with 0 for the put.
 pub(crate) fn breach() -> Breach
-    ensures refused { certificate_reply tables sample_size tally other_marks ≡ Err (Refusal.Unfair result) }
+    ensures refused { certificate_reply sample_docket other_marks ≡ Err (Refusal.Unfair result) }
     ensures first { first_breach tables sample_size tally.held other_marks ≡ Some result }
 {
     match certify(&OTHER_MARKS) {
@@ -127,9 +137,9 @@ pub(crate) fn breach() -> Breach
     }
 }
 
-// Least: what the floor of the sample docket's marks says of its total.
+/// Least: what the floor of the sample docket's marks says of its total.
 pub(crate) fn verdict() -> Verdict
-    ensures { result ≡ verdict_of (total tables sample_size tally.held tally.claims) (Some (floor tally.held marks)) }
+    ensures { result ≡ verdict_of (total sample_docket) (Some (floor tally.held marks)) }
 {
     let docket = sample_docket();
     let summary = Summary {

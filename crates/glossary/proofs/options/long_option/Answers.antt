@@ -1,5 +1,5 @@
 use Rattle.std.proofs.Common.{ap}
-use Rattle.pricing.specs.Priced.{Priced}
+use Rattle.rules_pricing.specs.Priced.{Priced}
 use Rattle.glossary.proofs.options.long_option.Goals as goal
 
 pub returns : goal.returns

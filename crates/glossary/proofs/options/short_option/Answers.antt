@@ -1,5 +1,5 @@
 use Rattle.std.proofs.Common.{ap}
-use Rattle.pricing.specs.Alone.{positive_part}
+use Rattle.rules_pricing.specs.Alone.{positive_part}
 use Rattle.glossary.proofs.options.short_option.Goals as goal
 
 pub returns : goal.returns

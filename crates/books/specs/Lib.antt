@@ -1,5 +1,0 @@
-pub mod Tables
-pub mod Texts
-pub mod Books
-pub mod Lawful
-pub mod Amounts

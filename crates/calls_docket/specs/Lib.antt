@@ -1,0 +1,9 @@
+pub use Rattle.rules_books.specs.Tables
+pub use Rattle.rules_books.specs.Books
+pub use Rattle.certificate_pairing.specs.Pairing
+pub use Rattle.certificate_pairing.specs.Dockets
+pub use Rattle.certificate_pairing.specs.Claims
+pub mod Refusals
+pub mod Texts
+pub mod Finding
+pub mod Calls

@@ -1,0 +1,4 @@
+pub mod Search
+pub mod First
+pub mod NotTried
+pub mod Searches

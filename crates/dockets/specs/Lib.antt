@@ -1,6 +1,0 @@
-pub mod Refusals
-pub mod Texts
-pub mod Tally
-pub mod Finding
-pub mod Calls
-pub mod Dockets

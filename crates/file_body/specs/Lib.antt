@@ -1,0 +1,4 @@
+pub mod Values
+pub mod Body
+pub mod Files
+pub mod Bodies

@@ -1,7 +1,0 @@
--- The amount that is printed.
-use Rattle.std.specs.Prelude.{ℤ, pos, neg_ℤ, if◌then◌else◌}
-use Rattle.money.specs.declared.dollars.Dollars.{Dollars}
-
--- its parts, below 0 where it is negative
-abbrev pub amount : Dollars → ℤ
-amount d = if d.negative then neg_ℤ (pos d.parts) else pos d.parts

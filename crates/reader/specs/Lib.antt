@@ -1,4 +1,0 @@
-pub mod Faults
-pub mod Lines
-pub mod Rates
-pub mod Head

@@ -1,5 +1,0 @@
-pub mod Values
-pub mod Body
-pub mod Files
-pub mod Bodies
-pub mod Contents

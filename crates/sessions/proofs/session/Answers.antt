@@ -1,5 +1,0 @@
-use Rattle.sessions.proofs.Holding.{held}
-use Rattle.sessions.proofs.session.Goals as goal
-
-pub returns-in-Ok-clause-held : goal.returns-in-Ok-clause-held
-returns-in-Ok-clause-held c = held c.args.input.now c.new.result c.new.ensures.head

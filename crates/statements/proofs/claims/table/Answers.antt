@@ -1,6 +1,0 @@
-use Rattle.statements.specs.Claims.{claims_table}
-use Rattle.statements.proofs.claims.table.Goals as goal
-
-pub returns : goal.returns
-unfolding claims_table
-returns c = rw (c.in_ok-claims.ensures, c.in_ok-amounts.ensures) at c.format.ensures.ok

@@ -1,5 +1,0 @@
-use Rattle.std.proofs.Common.{length}
-use Rattle.text.proofs.numbers.+digits_after.Given as goal
-
-abbrev pub decreases-digits_after : goal.decreases-digits_after
-decreases-digits_after l = length l.s.now

@@ -1,8 +1,0 @@
-use Rattle.std.proofs.Common.{◌∙◌}
-use Rattle.std.proofs.lemmas.Result.{IfOk-weaker}
-use Rattle.market.specs.Currency.{currency_on}
-use Rattle.writing.proofs.Forms.{currency_text}
-use Rattle.writing.proofs.sheet.currency_lines.Goals as goal
-
-pub returns : goal.returns
-returns c = IfOk-weaker c.format.result _ _ (λ t e. e ∙ currency_text (currency_on c.args.sheet.now)) c.format.ensures.ok
